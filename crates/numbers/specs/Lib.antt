@@ -1,0 +1,4 @@
+pub mod Integers
+pub mod Floats
+pub mod Rules
+pub mod Scaled
