@@ -14,6 +14,13 @@ pub data Rest : Type 0 where
 unfoldable pub restOf : ℕ → ℕ → Rest
 restOf rem den = cond (eqb rem 0) none (cond (ltb (rem * 2) den) less (cond (eqb (rem * 2) den) half more))
 
+-- the same by digits: the first that falls off, and whether a later one is set
+abbrev pub restBy : Bool → Bool → Rest
+restBy false false = none
+restBy false true = less
+restBy true false = half
+restBy true true = more
+
 -- `downward`: towards minus infinity. `halfEven`: to the nearest, a half to the even number. `halfUp`: to the nearest, a half towards plus infinity.
 pub data Rule : Type 0 where
   downward halfEven halfUp : Rule
