@@ -7,12 +7,12 @@ ghost use lib.IntN.{pos, natAbs};
 ghost use lib.Ieee as Ieee;
 ghost use lib.Ieee.{binary32, binary64};
 ghost use lib.Ieee.Scale.{finite};
-ghost use Rattle.rounding.specs.Cut.{cutBy, grows};
+ghost use Rattle.rounding.specs.Cut.{cutBy, grows, restBy};
 ghost use Rattle.rounding.specs.Pattern.{field, digits};
 ghost use Rattle.numbers.specs.Floats.{
     wholeOf, floorOf, halfEvenOf, toFormat, flushOf
 };
-ghost use Rattle.numbers.specs.Rules.{ruleOf, restBy};
+ghost use Rattle.numbers.specs.Rules.{ruleOf};
 
 // How a number that was cut is rounded.
 enum Rule {
@@ -73,6 +73,13 @@ fn place_of(b: u64) -> u64
     1075 - e
 }
 
+// The size of the whole number that the finite f64 with the pattern b becomes.
+fn whole_size(rule: Rule, negative: bool, b: u64) -> u64
+    ensures { λ r. ⌜ r ≡ cutBy (ruleOf rule) negative (digits binary64 b) (2 ^ (1074 - (field binary64 b - 1))) ⌝ }
+{
+    cut(rule, negative, digits_of(b), place_of(b))
+}
+
 // x as a whole number.
 fn whole(rule: Rule, x: f64) -> f64
     ensures { λ r. ⌜ r ≡ wholeOf (ruleOf rule) x ⌝ }
@@ -86,9 +93,9 @@ fn whole(rule: Rule, x: f64) -> f64
         return x;
     }
     if b < 9223372036854775808 {
-        return cut(rule, false, digits_of(b), place_of(b)) as f64;
+        return whole_size(rule, false, b) as f64;
     }
-    -(cut(rule, true, digits_of(b), place_of(b)) as f64)
+    -(whole_size(rule, true, b) as f64)
 }
 
 // The greatest whole number that is not above x.

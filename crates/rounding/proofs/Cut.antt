@@ -5,13 +5,13 @@ use mathlib.Core.Bool.{Bool, true, false, not, cond}
 use mathlib.Core.Logic.{_⊎_, inl, inr}
 use native.Mathlib.Omega.{arith}
 use native.Mathlib.Numerals.{add-one}
-use native.Mathlib.Nat.{add-zero, add-mul, one-mul, zero-mul, mul-comm, mul-right-comm, mul-lt-mul-of-pos-right, lt-of-mul-lt-mul-right, eq-of-mul-eq-mul-right, zero-add, div-add-mod', mod-lt, lt-of-le-of-lt, lt-of-lt-of-le, le-of-eq}
+use native.Mathlib.Nat.{add-zero, add-mul, one-mul, zero-mul, mul-comm, mul-right-comm, mul-lt-mul-of-pos-right, lt-of-mul-lt-mul-right, eq-of-mul-eq-mul-right, zero-add, div-eq-of-lt, mod-eq-of-lt, div-div-eq-div-mul, div-add-mod', mod-lt, lt-of-le-of-lt, lt-of-lt-of-le, le-of-eq}
 use borrow.Author.Tests.{eq-eqb, ne-eqb, lt-ltb, le-ltb, eqb-true, eqb-false, ltb-true, ltb-false}
 use lib.Dec.{T, isLe, isEq, leb→le, nleb→lt, eqb→eq, eqb-refl, eqb, ltb, lit<}
 use lib.Arith.{mod-mul}
 use lib.Ieee.{nearest}
 use lib.Ieee.Nearest.{closest, div-same}
-use Rattle.rounding.specs.Cut.{Rest, none, less, half, more, restOf, restBy, Rule, downward, halfEven, halfUp, grows, cutBy, Greatest, Nearest}
+use Rattle.rounding.specs.Cut.{Rest, none, less, half, more, restOf, restBy, Rule, downward, halfEven, halfUp, grows, cutBy, Greatest, Nearest, NearestUp}
 
 -- ---- what falls off, as a fact on the remainder r of b
 abbrev pub Falls : Rest → ℕ → ℕ → Type 0
@@ -110,10 +110,32 @@ cut-same k s a b c d B D e =
     ap (λ (z : ℕ). z + cond (grows k s (eqb (z % 2) 1) (restOf (a % b) b)) 1 0) q
     ∙ ap (λ (z : Rest). c / d + cond (grows k s (eqb (c / d % 2) 1) z) 1 0) (rest-same (a % b) b (c % d) d B D (mod-same a b c d e q))
 
+-- at the place of 2 * h, by the digits that fall off
+pub cut-digits : (k : Rule) (s : Bool) (d h : ℕ) → 0 < h → d / h / 2 + cond (grows k s (eqb (d / h / 2 % 2) 1) (restBy (eqb (d / h % 2) 1) (ltb 0 (d % h)))) 1 0 ≡ cutBy k s d (2 * h)
+unfolding cutBy
+cut-digits k s d h H = rw (div-div-eq-div-mul d h 2, mul-comm h 2, ← rest-by d h H)
+
+-- at a place where all of d falls off, and is less than a half
+pub cut-off : (k : Rule) (s : Bool) (d b : ℕ) → d * 2 < b → cond (grows k s false (restBy false (ltb 0 d))) 1 0 ≡ cutBy k s d b
+unfolding cutBy
+cut-off k s d b h = rw (div-eq-of-lt {n = d} {m = b} (omega arith), mod-eq-of-lt {n = d} {m = b} (omega arith), by (ltb 0 d) refl) (sym (zero-add (cond (grows k s false (restBy false (ltb 0 d))) 1 0)))
+  where
+    by : (t : Bool) → ltb 0 d ≡ t → restOf d b ≡ restBy false t
+    by true e = rest-is less d b (omega arith) (ltb-true 0 d e, h)
+    by false e = rest-is none d b (omega arith) (omega (arith, ltb-false 0 d e))
+
 -- a whole number stays
 pub cut-whole : (k : Rule) (s : Bool) (n : ℕ) → cutBy k s n 1 ≡ n
 unfolding cutBy
 cut-whole k s n = rw (rest-is none (n % 1) 1 (omega arith) (omega arith)) (omega arith)
+
+pub cut-le : (k : Rule) (s : Bool) (a b : ℕ) → cutBy k s a b ≤ a / b + 1
+unfolding cutBy
+cut-le k s a b = by (grows k s (eqb (a / b % 2) 1) (restOf (a % b) b))
+  where
+    by : (t : Bool) → a / b + cond t 1 0 ≤ a / b + 1
+    by true = omega arith
+    by false = omega arith
 
 -- ---- the meaning of the rules, with a / b * b as a number of its own
 kept : (q b n : ℕ) → n ≡ q * b → (q + 0) * b ≡ n
@@ -171,6 +193,23 @@ cut-halfEven s a b B = by (restOf (a % b) b) (rest-falls (a % b) b)
     by half h = tie (eqb (q % 2) 1) refl (h .1)
     by more h =
         near a b (q + 1) (q * b + b) (grown q b (q * b) refl) (omega (arith, whole, mod-lt a B)) (omega (arith, whole, mod-lt a B)) (λ e. omega (arith, whole, mod-lt a B)) (λ e. omega (arith, whole, mod-lt a B))
+
+pub cut-halfUp : (s : Bool) (a b : ℕ) → 0 < b → NearestUp s a b (cutBy halfUp s a b)
+unfolding cutBy
+cut-halfUp s a b B = by s (restOf (a % b) b) (rest-falls (a % b) b)
+  where
+    q : ℕ
+    q = a / b
+
+    by : (s : Bool) (t : Rest) → Falls t (a % b) b → NearestUp s a b (q + cond (grows halfUp s (eqb (q % 2) 1) t) 1 0)
+    by false none h = omega (arith, kept q b (q * b) refl, div-add-mod' a b)
+    by false less h = omega (arith, kept q b (q * b) refl, div-add-mod' a b)
+    by false half h = omega (arith, grown q b (q * b) refl, div-add-mod' a b)
+    by false more h = omega (arith, grown q b (q * b) refl, div-add-mod' a b, mod-lt a B)
+    by true none h = omega (arith, kept q b (q * b) refl, div-add-mod' a b)
+    by true less h = omega (arith, kept q b (q * b) refl, div-add-mod' a b)
+    by true half h = omega (arith, kept q b (q * b) refl, div-add-mod' a b)
+    by true more h = omega (arith, grown q b (q * b) refl, div-add-mod' a b, mod-lt a B)
 
 -- ---- `closest`, by which `round` chooses among a format's values, is the cut by `halfEven`
 is-lt : (a b : ℕ) → a < b → compare a b ≡ Ordering·lt

@@ -4,3 +4,4 @@ pub mod Round
 pub mod Value
 pub mod Pattern
 pub mod Own
+pub mod Finite

@@ -42,7 +42,7 @@ grows halfUp neg odd more = true
 unfoldable pub cutBy : Rule → Bool → ℕ → ℕ → ℕ
 cutBy r neg num den = num / den + cond (grows r neg (eqb (num / den % 2) 1) (restOf (num % den) den)) 1 0
 
--- ---- what the first two rules mean, said of the number alone; proofs/Cut.antt shows that `cutBy` gives it
+-- ---- what the rules mean, said of the number alone; proofs/Cut.antt shows that `cutBy` gives it
 
 -- ±n is the greatest whole number that is not above ±num/den: ±n ≤ ±num/den < ±n + 1
 abbrev pub Greatest : Bool → ℕ → ℕ → ℕ → Type 0
@@ -55,3 +55,8 @@ Nearest num den n =
     (n * den * 2 ≤ num * 2 + den)
     × (num * 2 ≤ n * den * 2 + den)
     × (((n * den * 2 ≡ num * 2 + den) ⊎ (num * 2 ≡ n * den * 2 + den)) → n % 2 ≡ 0)
+
+-- ±n is within a half of ±num/den, and at a half the one above it
+abbrev pub NearestUp : Bool → ℕ → ℕ → ℕ → Type 0
+NearestUp false num den n = (n * den * 2 ≤ num * 2 + den) × (num * 2 < n * den * 2 + den)
+NearestUp true num den n = (num * 2 ≤ n * den * 2 + den) × (n * den * 2 < num * 2 + den)

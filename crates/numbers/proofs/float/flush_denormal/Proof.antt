@@ -1,0 +1,19 @@
+use lib.Ieee.{ofBits, neg}
+use Rattle.numbers.proofs.Floats.{two-tests}
+use Rattle.numbers.proofs.float.flush_denormal.Statement.{statement}
+use Rattle.numbers.proofs.float.flush_denormal.Tie as tie
+
+returns : tie.Need-returns
+unfolding ofBits neg
+returns c = rw (← two-tests (c .before .before .args .x), c .before .if1 .taken, c .if2 .taken)
+
+returns-2 : tie.Need-returns-2
+unfolding ofBits neg
+returns-2 c = rw (← two-tests (c .before .before .args .x), c .before .if1 .taken, c .if2 .left)
+
+returns-3 : tie.Need-returns-3
+unfolding ofBits
+returns-3 c = rw (← two-tests (c .before .args .x), c .if1 .left)
+
+pub flush-denormal-spec : {M : Type 1} → statement M
+flush-denormal-spec = tie.close (tie.spec returns returns-2 returns-3)
