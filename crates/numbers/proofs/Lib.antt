@@ -1,2 +1,4 @@
 pub mod Integers
 pub mod Floats
+pub mod Narrow
+pub mod Ints

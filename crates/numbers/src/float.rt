@@ -145,14 +145,12 @@ pub fn f64_to_f32(x: f64) -> f32
 fn nearest_u64(n: u64) -> f64
     ensures { λ r. ⌜ r ≡ Ieee.ofInt binary64 (pos n) ⌝ }
 {
-    if n == 0 {
-        return 0.0;
+    // an f64 holds every whole number up to 2^53
+    if n <= 9007199254740992 {
+        return n as f64;
     }
-    let z = u64::leading_zeros(n) as u64;
-    if z >= 11 {
-        return f64::from_bits((1085 - z) * 4503599627370496 + (n << (z - 11)));
-    }
-    f64::from_bits((1085 - z) * 4503599627370496 + cut(Rule::HalfEven, false, n, 11 - z))
+    let place = 11 - u64::leading_zeros(n) as u64;
+    f64::from_bits((1074 + place) * 4503599627370496 + cut(Rule::HalfEven, false, n, place))
 }
 
 // The size of n.

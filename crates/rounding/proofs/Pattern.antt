@@ -226,6 +226,25 @@ round-neg f num den = go (num * 2 ^ low f) (size (num * 2 ^ low f / den) - prec 
     go : (n k : ℕ) → neg (core f false n den k) ≡ core f true n den k
     go n k = at (ltb (closest n (den * 2 ^ k) * 2 ^ k) (2 ^ (low f + suc (emax f)))) (closest n (den * 2 ^ k)) k
 
+-- the sign stands on top of the pattern
+pub toBits-signed : (f : Format) (s : Bool) (num den : ℕ) → toBits f (round f s num den) ≡ cond s (top f) 0 + toBits f (round f false num den)
+unfolding toBits round
+toBits-signed f s num den = go s (num * 2 ^ low f) (size (num * 2 ^ low f / den) - prec f)
+  where
+    plain : (t a b : ℕ) → t + a + b ≡ t + (0 + a + b)
+    plain t a b = omega arith
+
+    infinite : (t a : ℕ) → t + a ≡ t + (0 + a)
+    infinite t a = omega arith
+
+    at : (s b : Bool) (q k : ℕ) → toBits f (cond b (odd (suc (prec f)) s q k (low f)) (inf s)) ≡ cond s (top f) 0 + toBits f (cond b (odd (suc (prec f)) false q k (low f)) (inf false))
+    at s true zero k = plain (cond s (top f) 0) _ _
+    at s true (suc q) k = plain (cond s (top f) 0) _ _
+    at s false q k = infinite (cond s (top f) 0) (ones f * hid f)
+
+    go : (s : Bool) (n k : ℕ) → toBits f (core f s n den k) ≡ cond s (top f) 0 + toBits f (core f false n den k)
+    go s n k = at s (ltb (closest n (den * 2 ^ k) * 2 ^ k) (overflow f)) (closest n (den * 2 ^ k)) k
+
 pub sig-is : (e t : ℕ) → 0 < e → sig binary64 e t ≡ 4503599627370496 + t
 sig-is zero t h = absurd (no 0 h)
   where

@@ -1,68 +1,54 @@
 use borrow.Author.Needs.{needs}
+use mathlib.Core.Path.{_≡_, _∙_, ap}
+use mathlib.Core.Bool.{false}
+use Prim.Native.Nat.{ℕ, _-_, _^_}
+use native.Mathlib.Omega.{arith}
+use lib.Dec.{lit≤}
+use lib.Ieee.{binary64}
+use Rattle.rounding.specs.Cut.{halfEven, cutBy}
+use Rattle.rounding.specs.Pattern.{digits}
+use Rattle.numbers.proofs.Narrow.{narrow-low, narrow-high, kept-le}
 use Rattle.numbers.proofs.float.narrow.Statement.{statement}
 use Rattle.numbers.proofs.float.narrow.Tie as tie
-use Rattle.numbers.proofs.float.narrow.Reads as reads
-use Rattle.numbers.proofs.float.narrow.Lts as lts
-use Rattle.numbers.proofs.float.cut.Reads as cut-reads
-use Rattle.numbers.proofs.float.digits_of.Reads as digits-of-reads
-use Rattle.numbers.proofs.float.place_of.Reads as place-of-reads
 
--- src/float.rt:116:43
 digits-of-requires : tie.Need-digits-of-requires
 digits-of-requires c κs = search needs
 
--- src/float.rt:116:57
 place-of-requires : tie.Need-place-of-requires
 place-of-requires c κs = search needs
 
--- src/float.rt:116:57
 sub-cut : tie.Need-sub-cut
 sub-cut c = search needs
 
--- src/float.rt:116:9
 cut-requires : tie.Need-cut-requires
 cut-requires c κs = search needs
 
--- src/float.rt:116:9
 returns : tie.Need-returns
-returns c = ?
+returns c =
+    let a = c .before .before .before .before in
+    narrow-low (a .args .b) (c .cut .result) (c .before .before .before .if1 .taken) (c .cut .ensures ∙ rw (c .before .before .digits-of .ensures, c .before .place-of .ensures))
 
--- src/float.rt:118:13
 mul-m : tie.Need-mul-m
 mul-m c = search needs
 
--- src/float.rt:118:62
 digits-of-requires-2 : tie.Need-digits-of-requires-2
 digits-of-requires-2 c κs = search needs
 
--- src/float.rt:118:35
 cut-requires-2 : tie.Need-cut-requires-2
 cut-requires-2 c κs = search needs
 
--- src/float.rt:118:13
+-- the digits above the last place of a normal f32
+high : (c : tie.After-cut2) → c .cut2 .result ≡ cutBy halfEven false (digits binary64 (c .before .before .before .args .b)) (2 ^ 29)
+high c = c .cut2 .ensures ∙ rw (c .before .digits-of2 .ensures)
+
 add-m : tie.Need-add-m
-add-m c = ?
+add-m c = let a = c .before .before .before in omega (arith, kept-le (a .args .b) 0 29 (c .cut2 .result) (lit≤ tt) (high c), a)
 
--- src/float.rt:109:1
 returns-2 : tie.Need-returns-2
-returns-2 c = ?
+returns-2 c = let a = c .before .before .before in omega (arith, narrow-high (a .before .args .b) (c .before .cut2 .result) (a .if1 .left) (high (c .before)))
 
--- src/float.rt:109:1
 returns-3 : tie.Need-returns-3
-returns-3 c = ?
+returns-3 c = let a = c .before .before .before in omega (arith, narrow-high (a .before .args .b) (c .before .cut2 .result) (a .if1 .left) (high (c .before)))
 
 pub narrow-spec : {M : Type 1} → statement M
-narrow-spec =
-    tie.close
-    (tie.spec
-    digits-of-requires
-    place-of-requires
-    sub-cut
-    cut-requires
-    returns
-    mul-m
-    digits-of-requires-2
-    cut-requires-2
-    add-m
-    returns-2
-    returns-3)
+narrow-spec = tie.close (tie.spec digits-of-requires place-of-requires sub-cut cut-requires returns mul-m digits-of-requires-2 cut-requires-2 add-m returns-2 returns-3)

@@ -1,33 +1,30 @@
 use borrow.Author.Needs.{needs}
+use native.Mathlib.Omega.{arith}
+use mathlib.Core.Path.{ap}
+use lib.IntN.{natAbs}
+use mir.Facts.{toZ-ofZ}
+use Rattle.rounding.proofs.Lin.{fits-abs}
+use Rattle.numbers.proofs.Ints.{size-plain, minus-fits, minus-cast, minus-size}
 use Rattle.numbers.proofs.float.size_of.Statement.{statement}
 use Rattle.numbers.proofs.float.size_of.Tie as tie
-use Rattle.numbers.proofs.float.size_of.Reads as reads
-use Rattle.numbers.proofs.float.size_of.Lts as lts
 
--- src/float.rt:156:9
 cast-result : tie.Need-cast-result
-cast-result c = ?
+cast-result c = let f = c .before .fits .n in size-plain f (toZ-ofZ f) (c .if1 .taken)
 
--- src/float.rt:158:11
 sub-result : tie.Need-sub-result
-sub-result c = ?
+sub-result c = let f = c .before .fits .n in minus-fits f (toZ-ofZ f) (c .if1 .left)
 
--- src/float.rt:158:10
 cast-result-2 : tie.Need-cast-result-2
-cast-result-2 c = ?
+cast-result-2 c = let f = c .before .fits .n in minus-cast f (toZ-ofZ f) (c .if1 .left)
 
--- src/float.rt:158:9
 add-result : tie.Need-add-result
-add-result c = ?
+add-result c = let f = c .before .fits .n in omega (arith, minus-size f (toZ-ofZ f) (c .if1 .left), fits-abs f)
 
--- src/float.rt:152:1
 returns : tie.Need-returns
-returns c = search needs
+returns c = ap natAbs (toZ-ofZ (c .before .fits .n))
 
--- src/float.rt:152:1
 returns-2 : tie.Need-returns-2
-returns-2 c = ?
+returns-2 c = let f = c .before .fits .n in minus-size f (toZ-ofZ f) (c .if1 .left)
 
 pub size-of-spec : {M : Type 1} → statement M
-size-of-spec =
-    tie.close (tie.spec cast-result sub-result cast-result-2 add-result returns returns-2)
+size-of-spec = tie.close (tie.spec cast-result sub-result cast-result-2 add-result returns returns-2)
