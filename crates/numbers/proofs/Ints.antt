@@ -1,22 +1,24 @@
--- A whole number as the nearest f64, from its bits. Assumes nothing.
-use Prim.Native.Nat.{ℕ, suc, _+_, _-_, _*_, _^_, _≤_, _<_, min}
+-- A whole number as the nearest f64, from its bits, and an f64 as a whole number at the ends. Assumes nothing.
+use Prim.Native.Nat.{ℕ, suc, _+_, _-_, _*_, _/_, _^_, _≤_, _<_, min}
 use mathlib.Core.Path.{_≡_, refl, sym, ap, _∙_, subst}
 use mathlib.Core.Logic.{inr}
-use mathlib.Core.Bool.{Bool, true, false, not, false≢true}
+use mathlib.Core.Bool.{Bool, true, false, not, _||_, true≢false, false≢true}
 use native.Mathlib.Omega.{arith}
 use native.Mathlib.Numerals.{add-one}
-use native.Mathlib.Nat.{le-trans, le-of-eq, lt-of-lt-of-le, lt-of-le-of-lt, not-le-of-lt, lt-of-not-le, mul-one}
+use native.Mathlib.Nat.{le-trans, le-of-eq, lt-of-lt-of-le, lt-of-le-of-lt, not-le-of-lt, lt-of-not-le, mul-one, mul-pos, le-div-iff-mul-le}
+use borrow.Author.Tests.{lt-ltb, ltb-false}
 use lib.Dec.{T, ltb, lit<}
 use lib.Count.{leadingZeros, leading-top}
 use lib.Pow.{pow-add, pow-pos, pow-mono}
-use lib.IntN.{ℤ, pos, negsuc, natAbs, _-ℤ_}
+use lib.IntN.{ℤ, pos, negsuc, natAbs, negℤ, _-ℤ_}
 use lib.Signed.{leZ, nonNeg, mag}
 use mir.Syntax.{w64}
 use mir.Val.{Fits, SFits, toZ, ofZ}
 use mir.Facts.{toZ-ofZ}
-use lib.Ieee.{Float, binary64, round, isNan, ofBits, toBits, nanBits, ofInt, neg}
+use lib.Ieee.{Float, nan, inf, fin, binary64, up, down, round, isNan, ofBits, toBits, nanBits, ofInt, toSigned, neg, le, lt, ne}
+use lib.Ieee.Compare.{differs-from-itself}
 use lib.Ieee.Bits.{toBits-lt, nanBits-is}
-use lib.Ieee.Fits.{round-fits}
+use lib.Ieee.Fits.{round-fits, down-pos}
 use lib.Ieee.Scale.{round-same}
 use lib.Ieee.Nearest.{closest}
 use Rattle.rounding.specs.Cut.{halfEven, cutBy}
@@ -130,3 +132,38 @@ signed-plain {n} {Y} {m} {x} e h g k = go n (rw e at h) g
     go : (n : ℤ) → leZ (pos 0) n ≡ true → m ≡ natAbs n → x ≡ ofInt binary64 n
     go (pos n) h g = k ∙ ap (λ (z : ℕ). ofInt binary64 (pos z)) g
     go (negsuc n) h g = absurd (false≢true h)
+
+-- ---- an f64 beyond the ends of an i64
+abbrev pub end : Bool → Float
+end s = fin s 1 (pos 63)
+
+-- one half of an `or` that failed
+or-left : (a b : Bool) → a || b ≡ false → a ≡ false
+or-left true b h = absurd (true≢false h)
+or-left false b h = refl
+
+weight : (e : ℤ) → 0 < 9223372036854775808 * down e
+weight e = mul-pos (lit< {m = 0} {n = 9223372036854775808} tt) (down-pos e)
+
+past : (m : ℕ) (e : ℤ) → 9223372036854775808 * down e ≤ m * up e * 1 → 9223372036854775808 ≤ m * up e / down e
+past m e h = le-div-iff-mul-le (down-pos e) .1 (le-trans h (le-of-eq (mul-one (m * up e))))
+
+pub at-top : (x : Float) → le (end true) x ≡ true → lt x (end false) ≡ false → pos 9223372036854775807 ≡ toSigned 63 x
+unfolding le lt toSigned
+at-top nan a b = absurd (false≢true a)
+at-top (inf true) a b = absurd (false≢true a)
+at-top (inf false) a b = refl
+at-top (fin true m e) a b = absurd (true≢false (sym (lt-ltb 0 (m * up e * 1 + 9223372036854775808 * down e) (omega (arith, weight e))) ∙ b))
+at-top (fin false m e) a b = ap pos (omega (arith, past m e (ltb-false (m * up e * 1) (9223372036854775808 * down e) b)))
+
+pub at-bottom : (x : Float) → le (end true) x ≡ false → ne x x ≡ false → negsuc 9223372036854775807 ≡ toSigned 63 x
+unfolding le lt ne toSigned
+at-bottom nan a b = absurd (true≢false b)
+at-bottom (inf true) a b = refl
+at-bottom (inf false) a b = absurd (true≢false a)
+at-bottom (fin false m e) a b = absurd (true≢false (sym (lt-ltb 0 (9223372036854775808 * down e + m * up e * 1) (omega (arith, weight e))) ∙ or-left _ _ a))
+at-bottom (fin true m e) a b = ap (λ (z : ℕ). negℤ (pos z)) {x = 9223372036854775808} {y = min (m * up e / down e) 9223372036854775808} (omega (arith, past m e (ltb-false (m * up e * 1) (9223372036854775808 * down e) (or-left _ _ a))))
+
+pub at-nan : (x : Float) → ne x x ≡ true → pos 0 ≡ toSigned 63 x
+unfolding toSigned
+at-nan x h = ap (toSigned 63) (sym (differs-from-itself x (subst T (sym h) tt)))

@@ -10,7 +10,11 @@ ghost use lib.Ieee.Scale.{finite};
 ghost use Rattle.rounding.specs.Cut.{cutBy, grows, restBy};
 ghost use Rattle.rounding.specs.Pattern.{field, digits};
 ghost use Rattle.numbers.specs.Floats.{
-    wholeOf, floorOf, halfEvenOf, toFormat, flushOf
+  wholeOf,
+  floorOf,
+  halfEvenOf,
+  toFormat,
+  flushOf,
 };
 ghost use Rattle.numbers.specs.Rules.{ruleOf};
 
@@ -44,7 +48,14 @@ fn cut(rule: Rule, negative: bool, d: u64, place: u64) -> u64
     let half: u64 = 1 << (place - 1);
     let doubled = d >> (place - 1);
     let kept = doubled / 2;
-    kept + carries(rule, negative, kept % 2 == 1, doubled % 2 == 1, d % half > 0) as u64
+    kept
+        + carries(
+            rule,
+            negative,
+            kept % 2 == 1,
+            doubled % 2 == 1,
+            d % half > 0,
+        ) as u64
 }
 
 // The digits of a finite f64 by its pattern, with the leading one where there is one.

@@ -1,30 +1,29 @@
-use borrow.Author.Needs.{needs}
+use mathlib.Core.Path.{_∙_, sym, subst}
+use mir.Syntax.{w64}
+use lib.Dec.{T}
+use lib.Ieee.{ofBits, neg}
+use Rattle.rounding.proofs.Lin.{back}
+use Rattle.numbers.proofs.Ints.{at-top, at-bottom, at-nan}
 use Rattle.numbers.proofs.float.f64_to_i64.Statement.{statement}
 use Rattle.numbers.proofs.float.f64_to_i64.Tie as tie
-use Rattle.numbers.proofs.float.f64_to_i64.Reads as reads
-use Rattle.numbers.proofs.float.f64_to_i64.Lts as lts
-use Rattle.std.proofs.num.truncating_f64_to_i64.Reads as truncating-f64-to-i64-reads
 
--- src/float.rt:176:13
 truncating-f64-to-i64-requires : tie.Need-truncating-f64-to-i64-requires
-truncating-f64-to-i64-requires c κs = ?
+unfolding ofBits neg
+truncating-f64-to-i64-requires c κs = (subst T (sym (c .before .if1 .taken)) tt, subst T (sym (c .if2 .taken)) tt)
 
--- src/float.rt:176:13
 returns : tie.Need-returns
-returns c = search needs
+returns c = let t = c .truncating-f64-to-i64 in back w64 (t .result) (t .ok) ∙ t .ensures
 
--- src/float.rt:178:9
 returns-2 : tie.Need-returns-2
-returns-2 c = ?
+unfolding ofBits neg
+returns-2 c = at-top (c .before .before .args .x) (c .before .if1 .taken) (c .if2 .left)
 
--- src/float.rt:181:9
 returns-3 : tie.Need-returns-3
-returns-3 c = ?
+returns-3 c = at-nan (c .before .before .args .x) (c .if3 .taken)
 
--- src/float.rt:171:1
 returns-4 : tie.Need-returns-4
-returns-4 c = ?
+unfolding ofBits neg
+returns-4 c = at-bottom (c .before .before .args .x) (c .before .if1 .left) (c .if3 .left)
 
 pub f64-to-i64-spec : {M : Type 1} → statement M
-f64-to-i64-spec =
-    tie.close (tie.spec truncating-f64-to-i64-requires returns returns-2 returns-3 returns-4)
+f64-to-i64-spec = tie.close (tie.spec truncating-f64-to-i64-requires returns returns-2 returns-3 returns-4)

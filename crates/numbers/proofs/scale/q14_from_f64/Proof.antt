@@ -1,34 +1,73 @@
 use borrow.Author.Needs.{needs}
+use mathlib.Core.Path.{_≡_, refl, sym, ap, _∙_, subst}
+use mathlib.Core.Bool.{Bool, true, false, not, _||_, cond}
+use native.Mathlib.Omega.{arith}
+use lib.Dec.{T}
+use lib.IntN.{ℤ, pos, negsuc}
+use lib.Signed.{ltZ}
+use lib.Ieee.{Float, fin, ofBits, isNan, ne}
+use lib.Ieee.Bits.{is-false}
+use lib.Ieee.Compare.{differs-from-itself}
+use mir.Syntax.{w16, w64}
+use mir.Val.{SFits, toZ, ofZ}
+use mir.Facts.{toZ-ofZ}
+use Rattle.rounding.proofs.Lin.{back, lt-no, fit-in}
+use Rattle.rounding.proofs.Own.{not-nan}
+use Rattle.numbers.specs.Scaled.{scaledOf, Answer, value, refusal, q14FromOf}
 use Rattle.numbers.proofs.scale.q14_from_f64.Statement.{statement}
 use Rattle.numbers.proofs.scale.q14_from_f64.Tie as tie
-use Rattle.numbers.proofs.scale.q14_from_f64.Reads as reads
-use Rattle.numbers.proofs.scale.q14_from_f64.Lts as lts
-use Rattle.numbers.proofs.scale.floor_scaled.Reads as floor-scaled-reads
 
--- src/scale.rt:31:9
+-- the definition by the outcomes of its tests
+abbrev answer : Bool → Bool → Bool → ℤ → Answer
+answer a b c v = cond (a || (b || c)) (refusal 18) (value v)
+
+none : (x : Float) → ne x x ≡ true → refusal 18 ≡ q14FromOf x
+unfolding q14FromOf isNan
+none x h = ap q14FromOf (sym (differs-from-itself x (subst T (sym h) tt)))
+
+-- Y is v as the machine reads it back from its bits
+module _ (x : Float) {v Y : ℤ} (real : ne x x ≡ false) (e : v ≡ scaledOf x (fin false 1 (pos 14))) (back : Y ≡ v) where
+  known : {b c : Bool} → ltZ Y (negsuc 32767) ≡ b → ltZ (pos 32767) Y ≡ c → answer false b c Y ≡ q14FromOf x
+  unfolding q14FromOf
+  known p q = rw (← e, ← back, p, q, is-false (isNan x) (not-nan x real))
+
+  low : ltZ Y (negsuc 32767) ≡ true → refusal 18 ≡ q14FromOf x
+  low p = known p refl
+
+  high : ltZ Y (negsuc 32767) ≡ false → ltZ (pos 32767) Y ≡ true → refusal 18 ≡ q14FromOf x
+  high p q = known p q
+
+  within : ltZ Y (negsuc 32767) ≡ false → ltZ (pos 32767) Y ≡ false → value Y ≡ q14FromOf x
+  within p q = known p q
+
+fits : (Y : ℤ) → ltZ Y (negsuc 32767) ≡ false → ltZ (pos 32767) Y ≡ false → SFits w16 Y
+fits Y p q = fit-in w16 Y (omega (arith, lt-no (pos 32767) Y q)) (omega (arith, lt-no Y (negsuc 32767) p))
+
+read : (c : tie.After-floor-scaled) → toZ w64 (ofZ w64 (c .floor-scaled .result)) ≡ c .floor-scaled .result
+read c = back w64 (c .floor-scaled .result) (c .floor-scaled .ok)
+
 returns : tie.Need-returns
-returns c = ?
+returns c = none (c .before .args .x) (c .if1 .taken)
 
--- src/scale.rt:33:9
 floor-scaled-requires : tie.Need-floor-scaled-requires
 floor-scaled-requires c κs = search needs
 
--- src/scale.rt:35:9
 returns-2 : tie.Need-returns-2
-returns-2 c = ?
+unfolding ofBits
+returns-2 c = let v = c .before in low (v .before .before .args .x) (v .before .if1 .left) (v .floor-scaled .ensures) (read v) (c .if2 .taken)
 
--- src/scale.rt:38:9
 returns-3 : tie.Need-returns-3
-returns-3 c = ?
+unfolding ofBits
+returns-3 c = let v = c .before .before in high (v .before .before .args .x) (v .before .if1 .left) (v .floor-scaled .ensures) (read v) (c .before .if2 .left) (c .if3 .taken)
 
--- src/scale.rt:40:16
 cast-t4 : tie.Need-cast-t4
-cast-t4 c = ?
+cast-t4 c = fits _ (c .before .if2 .left) (c .if3 .left)
 
--- src/scale.rt:27:1
 returns-4 : tie.Need-returns-4
-returns-4 c = ?
+unfolding ofBits
+returns-4 c =
+    let v = c .before .before in
+    ap value (toZ-ofZ (fits _ (c .before .if2 .left) (c .if3 .left))) ∙ within (v .before .before .args .x) (v .before .if1 .left) (v .floor-scaled .ensures) (read v) (c .before .if2 .left) (c .if3 .left)
 
 pub q14-from-f64-spec : {M : Type 1} → statement M
-q14-from-f64-spec =
-    tie.close (tie.spec returns floor-scaled-requires returns-2 returns-3 cast-t4 returns-4)
+q14-from-f64-spec = tie.close (tie.spec returns floor-scaled-requires returns-2 returns-3 cast-t4 returns-4)

@@ -1,22 +1,22 @@
 use borrow.Author.Needs.{needs}
+use mathlib.Core.Path.{_∙_}
+use mir.Syntax.{w16, w64}
+use lib.Ieee.{ofBits}
+use Rattle.rounding.proofs.Lin.{back}
 use Rattle.numbers.proofs.scale.q15_from_f64.Statement.{statement}
 use Rattle.numbers.proofs.scale.q15_from_f64.Tie as tie
-use Rattle.numbers.proofs.scale.q15_from_f64.Reads as reads
-use Rattle.numbers.proofs.scale.q15_from_f64.Lts as lts
-use Rattle.numbers.proofs.fixed.sat16.Reads as sat16-reads
-use Rattle.numbers.proofs.scale.floor_scaled.Reads as floor-scaled-reads
 
--- src/scale.rt:17:25
 floor-scaled-requires : tie.Need-floor-scaled-requires
 floor-scaled-requires c κs = search needs
 
--- src/scale.rt:17:5
 sat16-requires : tie.Need-sat16-requires
 sat16-requires c κs = search needs
 
--- src/scale.rt:14:1
 returns : tie.Need-returns
-returns c = ?
+unfolding ofBits
+returns c =
+    let v = c .before .floor-scaled in
+    back w16 (c .sat16 .result) (c .sat16 .ok) ∙ c .sat16 .ensures ∙ rw (back w64 (v .result) (v .ok), v .ensures)
 
 pub q15-from-f64-spec : {M : Type 1} → statement M
 q15-from-f64-spec = tie.close (tie.spec floor-scaled-requires sat16-requires returns)
