@@ -1,0 +1,4 @@
+pub mod Samples
+pub mod Lengths
+pub mod Twice
+pub mod Blocks

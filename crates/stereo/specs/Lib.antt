@@ -1,0 +1,5 @@
+pub mod Answer
+pub mod Samples
+pub mod Matrix
+
+pub mod Verdict
