@@ -1,0 +1,5 @@
+pub mod Machine
+pub mod Formats
+pub mod Gains
+pub mod Records
+pub mod Calls

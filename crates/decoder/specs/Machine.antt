@@ -1,0 +1,160 @@
+-- Document 01's plain machine, over the format: "The plain machine, one sample", steps 1 to 7, and a whole block. It knows nothing of the program. Definitions only.
+use Prim.Native.Nat.{ℕ, zero, suc, _+_, _%_, _^_}
+use mathlib.Core.Bool.{Bool, true, false, _&&_, cond}
+use mathlib.Core.List.{List}
+use lib.ListN.{length, getD}
+use Rattle.phase.specs.Lookup.{sineAt}
+use Rattle.stereo.specs.Answer.{Said, accepted, turned, firstOf, tableRule, inputRule, outputRule, kept}
+use Rattle.stereo.specs.Samples.{samples}
+
+-- the machine's state: the record's fields
+pub record Pll (A : Type 0) : Type 0 where
+  pub kp : A
+  pub ki : A
+  pub imax : A
+  pub beta : A
+  pub on : A
+  pub off : A
+  pub step0 : ℕ
+  pub phase : ℕ
+  pub integ : A
+  pub level : A
+  pub stereo : Bool
+  pub enabled : Bool
+
+-- what the steps say of one format's numbers; specs/Formats.antt has the two
+pub record Arithmetic (A : Type 0) : Type 0 where
+  -- 1: the cosine from the table at a phase
+  pub lookup : List A → ℕ → A
+  -- 2: whether a pilot sample takes part, the product of two numbers, and 0
+  pub usable : A → Bool
+  pub times : A → A → A
+  pub nought : A
+  -- 3: the next level, from beta, the level and q
+  pub levelNext : A → A → A → A
+  -- 4 and 6: x is at or above y; x is below y
+  pub reaches : A → A → Bool
+  pub under : A → A → Bool
+  -- 5: x times s2
+  pub demodulate : A → A → A
+  -- 6: integ plus ki times e, from the three of them, and the other sign
+  pub gather : A → A → A → A
+  pub minus : A → A
+  -- 7: kp times e plus integ, and the correction
+  pub frequency : A → A → A → A
+  pub correction : A → ℕ
+  -- whether a block takes the record (cause 0)
+  pub fit : Pll A → Bool
+
+module _ {A : Type 0} (F : Arithmetic A) where
+  -- 4: at or above on: stereo; else below off: mono; else kept
+  abbrev pub decide : A → A → A → Bool → Bool
+  decide level on off was = cond (F .reaches level on) true (cond (F .under level off) false was)
+
+  -- 6: above imax it becomes imax, after that below -imax it becomes -imax
+  abbrev pub limited : A → A → A
+  limited imax x = let y = cond (F .under imax x) imax x in cond (F .under y (F .minus imax)) (F .minus imax) y
+
+  -- 2: p times c where the pilot takes part, else 0
+  abbrev pub errorOf : List A → Pll A → A → A
+  errorOf t d p = cond (F .usable p) (F .times p (F .lookup t (d .phase))) (F .nought)
+
+  -- 3: skipped where it does not
+  abbrev pub levelOf : List A → Pll A → A → A
+  levelOf t d p = cond (F .usable p) (F .levelNext (d .beta) (d .level) (F .times p (F .lookup t (sineAt 1 (d .phase))))) (d .level)
+
+  -- 4: skipped there too
+  abbrev pub stereoOf : List A → Pll A → A → Bool
+  stereoOf t d p = cond (F .usable p) (decide (levelOf t d p) (d .on) (d .off) (d .stereo)) (d .stereo)
+
+  -- 5: the difference; the sum is x
+  unfoldable pub differenceOf : List A → Pll A → A → A → A
+  differenceOf t d x p = cond (stereoOf t d p && d .enabled) (F .demodulate x (F .lookup t (sineAt 2 (d .phase)))) (F .nought)
+
+  -- 6
+  abbrev pub integOf : List A → Pll A → A → A
+  integOf t d p = limited (d .imax) (F .gather (d .integ) (d .ki) (errorOf t d p))
+
+  -- 7: the state after the sample
+  unfoldable pub nextOf : List A → Pll A → A → Pll A
+  nextOf t d p =
+      let e = errorOf t d p in
+      let integ = integOf t d p in
+      record {
+        kp = d .kp;
+        ki = d .ki;
+        imax = d .imax;
+        beta = d .beta;
+        on = d .on;
+        off = d .off;
+        step0 = d .step0;
+        phase = (d .phase + d .step0 + F .correction (F .frequency (d .kp) e integ)) % 2 ^ 32;
+        integ = integ;
+        level = levelOf t d p;
+        stereo = stereoOf t d p;
+        enabled = d .enabled;
+      }
+
+  -- the state before sample i of a block, whose pilot is ps
+  unfoldable pub stateAt : List A → List A → Pll A → ℕ → Pll A
+  stateAt t ps d zero = d
+  stateAt t ps d (suc i) = nextOf t (stateAt t ps d i) (getD ps i (F .nought))
+
+-- what a block answers and leaves: the outputs and the state
+pub record Blocked (A : Type 0) : Type 0 where
+  pub said : Said
+  pub sum : List A
+  pub difference : List A
+  pub pll : Pll A
+
+-- a block: causes 0, 9, 10, 11 in order; otherwise its samples in order
+module _ {A : Type 0} (F : Arithmetic A) where
+  abbrev pub blockSays : Pll A → ℕ → ℕ → ℕ → ℕ → ℕ → Said
+  blockSays d table mpx pilot sum difference =
+      firstOf (firstOf (firstOf (firstOf (cond (F .fit d) accepted (turned 0)) (tableRule table)) (inputRule mpx pilot)) (outputRule mpx sum)) (outputRule mpx difference)
+
+  unfoldable pub blockOf : Pll A → List A → List A → List A → List A → List A → Blocked A
+  blockOf d t mpx pilot sum difference =
+      let n = length mpx in
+      let said = blockSays d (length t) n (length pilot) (length sum) (length difference) in
+      let x = λ (i : ℕ). getD mpx i (F .nought) in
+      let p = λ (i : ℕ). getD pilot i (F .nought) in
+      record {
+        said = said;
+        sum = kept said (samples n x) sum;
+        difference = kept said (samples n (λ i. differenceOf F t (stateAt F t pilot d i) (x i) (p i))) difference;
+        pll = kept said (stateAt F t pilot d n) d;
+      }
+
+-- enable and disable set enabled; reset sets phase, integrator and level to 0 and stereo to false
+abbrev pub enabledOf : {A : Type 0} → Bool → Pll A → Pll A
+enabledOf b d = record {
+  kp = d .kp;
+  ki = d .ki;
+  imax = d .imax;
+  beta = d .beta;
+  on = d .on;
+  off = d .off;
+  step0 = d .step0;
+  phase = d .phase;
+  integ = d .integ;
+  level = d .level;
+  stereo = d .stereo;
+  enabled = b;
+}
+
+abbrev pub resetOf : {A : Type 0} → A → Pll A → Pll A
+resetOf z d = record {
+  kp = d .kp;
+  ki = d .ki;
+  imax = d .imax;
+  beta = d .beta;
+  on = d .on;
+  off = d .off;
+  step0 = d .step0;
+  phase = 0;
+  integ = z;
+  level = z;
+  stereo = false;
+  enabled = d .enabled;
+}

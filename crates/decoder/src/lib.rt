@@ -1,0 +1,6 @@
+// The stereo decoder: the pilot loop with its lock decision, in f32 and in Q15, plain and fast.
+pub mod fast_f32;
+pub mod gains;
+mod parts_f32;
+pub mod plain_f32;
+pub mod pll_f32;
