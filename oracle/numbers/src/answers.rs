@@ -55,11 +55,11 @@ fn q15(w: u64) -> Q15 {
     Q15(w as i16)
 }
 
-fn f32_of(w: u64) -> f32 {
+pub fn f32_of(w: u64) -> f32 {
     f32::from_bits(w as u32)
 }
 
-fn f64_of(w: u64) -> f64 {
+pub fn f64_of(w: u64) -> f64 {
     f64::from_bits(w)
 }
 
