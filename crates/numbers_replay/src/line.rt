@@ -1,0 +1,91 @@
+// A line of the list: a name in 16 columns, the words of two arguments and of the answer in 16
+// hexadecimal digits each, with a space before each word and a new line after the last.
+ghost use Prim.Native.Nat.{_≤_};
+
+pub struct Case {
+    pub function: usize,
+    pub a: u64,
+    pub b: u64,
+    pub answer: u64,
+}
+
+pub enum Read {
+    Case(Case),
+    Malformed,
+}
+
+enum Hex {
+    Value(u64),
+    Malformed,
+}
+
+// The value of a hexadecimal digit, or 16 for another byte.
+fn digit(c: u8) -> u64 {
+    if c >= b'0' {
+        if c <= b'9' {
+            return (c - b'0') as u64;
+        }
+        if c >= b'a' {
+            if c <= b'f' {
+                return (c - b'a' + 10) as u64;
+            }
+        }
+    }
+    16
+}
+
+// The word whose 16 digits begin at a column.
+fn word(line: &[u8; 68], at: usize) -> Hex
+    requires { ⌜ at ≤ 52 ⌝ }
+{
+    let mut value: u64 = 0;
+    let mut i = 0;
+    while i < 16 {
+        let d = digit(line[at + i]);
+        if d > 15 {
+            return Hex::Malformed;
+        }
+        value = value << 4 | d;
+        i += 1;
+    }
+    Hex::Value(value)
+}
+
+// Whether the columns between the words are as they have to be.
+fn is_spaced(line: &[u8; 68]) -> bool {
+    if line[16] != b' ' {
+        return false;
+    }
+    if line[33] != b' ' {
+        return false;
+    }
+    if line[50] != b' ' {
+        return false;
+    }
+    line[67] == b'\n'
+}
+
+pub fn parse(line: &[u8; 68]) -> Read {
+    let function = crate::names::find(line);
+    if function >= crate::names::COUNT {
+        return Read::Malformed;
+    }
+    if !is_spaced(line) {
+        return Read::Malformed;
+    }
+    let Hex::Value(a) = word(line, 17) else {
+        return Read::Malformed;
+    };
+    let Hex::Value(b) = word(line, 34) else {
+        return Read::Malformed;
+    };
+    let Hex::Value(answer) = word(line, 51) else {
+        return Read::Malformed;
+    };
+    Read::Case(Case {
+        function,
+        a,
+        b,
+        answer,
+    })
+}

@@ -1,0 +1,132 @@
+//! Compares our static library with the original and with std, input by input.
+//!
+//!     compare [COUNT]    the boundaries, COUNT random inputs and, of a float, COUNT NaNs for each
+//!                        function; COUNT is 4000000 where it is not given
+//!     compare every      every input of each function whose arguments have 32 bits in all
+
+mod ours;
+
+use numbers_oracle::edges::edges;
+use numbers_oracle::random::Random;
+use numbers_oracle::{FUNCTIONS, Function, Kind};
+
+/// Differences of one function that are printed; the others are counted.
+const SHOWN: u64 = 5;
+
+struct Comparison {
+    function: &'static Function,
+    ours: fn(u64, u64) -> u64,
+    inputs: u64,
+    differences: u64,
+}
+
+impl Comparison {
+    fn new(function: &'static Function) -> Self {
+        let Some(ours) = ours::function(function.name) else {
+            eprintln!("{}: not in the static library", function.name);
+            std::process::exit(1);
+        };
+        Comparison {
+            function,
+            ours,
+            inputs: 0,
+            differences: 0,
+        }
+    }
+
+    fn compare(&mut self, (a, b): (u64, u64)) {
+        self.inputs += 1;
+        let expected = (self.function.answer)(a, b);
+        let got = (self.ours)(a, b);
+        if got == expected {
+            return;
+        }
+        self.differences += 1;
+        if self.differences <= SHOWN {
+            let name = self.function.name;
+            println!("{name:16} {a:016x} {b:016x} {expected:016x}, ours {got:016x}");
+        }
+    }
+
+    /// Prints the counts and answers whether there was no difference.
+    fn report(&self) -> bool {
+        println!(
+            "{:16} {} inputs, {} differences",
+            self.function.name, self.inputs, self.differences
+        );
+        self.differences == 0
+    }
+}
+
+fn is_float(kind: Kind) -> bool {
+    matches!(kind, Kind::F32 | Kind::F64)
+}
+
+fn nan(random: &mut Random, kind: Kind) -> u64 {
+    match kind {
+        Kind::F32 => random.nan_f32(),
+        _ => random.nan_f64(),
+    }
+}
+
+/// Inputs with a NaN of chosen bits in the first argument, the second or both.
+fn compare_nans(c: &mut Comparison, random: &mut Random, count: u64) {
+    let f = c.function;
+    for k in 0..count {
+        let (mut a, mut b) = random.input(f);
+        if is_float(f.a) && (k % 3 != 1 || !is_float(f.b)) {
+            a = nan(random, f.a);
+        }
+        if is_float(f.b) && k % 3 != 0 {
+            b = nan(random, f.b);
+        }
+        c.compare((a, b));
+    }
+}
+
+fn compare_some(function: &'static Function, count: u64) -> bool {
+    let mut random = Random::new(2);
+    let mut c = Comparison::new(function);
+    edges(function).into_iter().for_each(|case| c.compare(case));
+    (0..count).for_each(|_| c.compare(random.input(function)));
+    if is_float(function.a) {
+        compare_nans(&mut c, &mut random, count);
+    }
+    c.report()
+}
+
+fn compare_every(function: &'static Function) -> bool {
+    let signed = |w: u32| w as u16 as i16 as i64 as u64;
+    let mut c = Comparison::new(function);
+    match (function.a, function.b) {
+        (Kind::F32 | Kind::U32, Kind::Nothing) => {
+            (0..=u32::MAX).for_each(|w| c.compare((w as u64, 0)))
+        }
+        (Kind::I16, Kind::I16) => {
+            (0..=u32::MAX).for_each(|w| c.compare((signed(w), signed(w >> 16))))
+        }
+        _ => return true,
+    }
+    c.report()
+}
+
+fn main() {
+    let argument = std::env::args().nth(1);
+    let mut equal = true;
+    for f in FUNCTIONS {
+        equal &= match argument.as_deref() {
+            Some("every") => compare_every(f),
+            None => compare_some(f, 4_000_000),
+            Some(n) => match n.parse() {
+                Ok(count) => compare_some(f, count),
+                Err(_) => {
+                    eprintln!("usage: compare [COUNT | every]");
+                    std::process::exit(2);
+                }
+            },
+        };
+    }
+    if !equal {
+        std::process::exit(1);
+    }
+}

@@ -1,0 +1,16 @@
+//! Stand-in for kernels/mod.rs.
+
+pub mod modulate;
+
+include!(concat!(env!("OUT_DIR"), "/kernels.rs"));
+
+use crate::error::{Error, Result};
+
+/// The length rule: causes 10 and 11 of document 01.
+pub(crate) fn check_len(expected: usize, got: usize) -> Result<()> {
+    if expected == got {
+        Ok(())
+    } else {
+        Err(Error::LengthMismatch { expected, got })
+    }
+}

@@ -1,0 +1,3 @@
+//! Stand-in for reference/mod.rs.
+
+include!(concat!(env!("OUT_DIR"), "/reference.rs"));
