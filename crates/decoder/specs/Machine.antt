@@ -2,6 +2,7 @@
 use Prim.Native.Nat.{ℕ, zero, suc, _+_, _%_, _^_}
 use mathlib.Core.Bool.{Bool, true, false, _&&_, cond}
 use mathlib.Core.List.{List}
+use mathlib.Core.Path.{_≡_}
 use lib.ListN.{length, getD}
 use Rattle.phase.specs.Lookup.{sineAt}
 use Rattle.stereo.specs.Answer.{Said, accepted, turned, firstOf, tableRule, inputRule, outputRule, kept}
@@ -106,6 +107,13 @@ pub record Blocked (A : Type 0) : Type 0 where
   pub sum : List A
   pub difference : List A
   pub pll : Pll A
+
+-- what the samples of an accepted block leave in the outputs and the state
+module _ {A : Type 0} (F : Arithmetic A) where
+  pub record Ran (t mpx pilot : List A) (d : Pll A) (sum difference : List A) (next : Pll A) : Type 0 where
+    pub sums : sum ≡ samples (length mpx) (λ i. getD mpx i (F .nought))
+    pub differences : difference ≡ samples (length mpx) (λ i. differenceOf F t (stateAt F t pilot d i) (getD mpx i (F .nought)) (getD pilot i (F .nought)))
+    pub state : next ≡ stateAt F t pilot d (length mpx)
 
 -- a block: causes 0, 9, 10, 11 in order; otherwise its samples in order
 module _ {A : Type 0} (F : Arithmetic A) where

@@ -1,0 +1,105 @@
+// The parts of a sample's steps that the f32 loops share.
+use crate::pll_f32::StereoPllF32;
+use numbers::float::{flush_denormal, is_finite_f32};
+use stereo::answer::{table_rule, then_input, then_output, Answer};
+ghost use mathlib.Core.Path.{_≡_};
+ghost use mathlib.Core.Bool.{cond};
+ghost use Prim.Native.Nat.{_+_, _%_, _^_};
+ghost use lib.Ieee as Ieee;
+ghost use lib.Ieee.{binary32};
+ghost use lib.Ieee.Scale.{finite};
+ghost use Rattle.stereo.specs.Answer.{says};
+ghost use Rattle.decoder.specs.Machine.{decide, limited, blockSays};
+ghost use Rattle.decoder.specs.Formats.{f32, levelF32, gatherF32};
+ghost use Rattle.decoder.specs.Gains.{nought};
+ghost use Rattle.decoder.specs.Records.{pllF32};
+
+// A decoder after a sample, and the sample's difference output.
+pub struct StepF32 {
+    pub next: StereoPllF32,
+    pub difference: f32,
+}
+
+// A decoder after a block, and the block's answer.
+pub struct ReplyF32 {
+    pub answer: Answer,
+    pub decoder: StereoPllF32,
+}
+
+pub fn level_next(beta: f32, level: f32, q: f32) -> f32
+    ensures { λ r. ⌜ r ≡ levelF32 beta level q ⌝ }
+{
+    flush_denormal(level + beta * (q - level))
+}
+
+pub fn decided(level: f32, on: f32, off: f32, was: bool) -> bool
+    ensures { λ r. ⌜ r ≡ decide f32 level on off was ⌝ }
+{
+    if level >= on {
+        true
+    } else if level < off {
+        false
+    } else {
+        was
+    }
+}
+
+pub fn gathered(integ: f32, ki: f32, e: f32) -> f32
+    ensures { λ r. ⌜ r ≡ gatherF32 integ ki e ⌝ }
+{
+    flush_denormal(integ + ki * e)
+}
+
+pub fn within(imax: f32, x: f32) -> f32
+    ensures { λ r. ⌜ r ≡ limited f32 imax x ⌝ }
+{
+    let y = if x > imax { imax } else { x };
+    if y < -imax { -imax } else { y }
+}
+
+pub fn demodulated(on: bool, x: f32, s2: f32) -> f32
+    ensures { λ r. ⌜ r ≡ cond on (Ieee.mul binary32 x s2) nought ⌝ }
+{
+    if on { x * s2 } else { 0.0 }
+}
+
+pub fn moved(phase: u32, step0: u32, correction: u32) -> u32
+    ensures { λ r. ⌜ r ≡ (phase + step0 + correction) % 2 ^ 32 ⌝ }
+{
+    std::num::wrapping_add_u32(std::num::wrapping_add_u32(phase, step0), correction)
+}
+
+// The error, the level and the decision where a pilot sample may not be finite.
+pub fn error_of(p: f32, c: f32) -> f32
+    ensures { λ r. ⌜ r ≡ cond (finite p) (Ieee.mul binary32 p c) nought ⌝ }
+{
+    if is_finite_f32(p) { p * c } else { 0.0 }
+}
+
+pub fn level_of(p: f32, s: f32, beta: f32, level: f32) -> f32
+    ensures { λ r. ⌜ r ≡ cond (finite p) (levelF32 beta level (Ieee.mul binary32 p s)) level ⌝ }
+{
+    if is_finite_f32(p) {
+        level_next(beta, level, p * s)
+    } else {
+        level
+    }
+}
+
+pub fn stereo_of(p: f32, level: f32, on: f32, off: f32, was: bool) -> bool
+    ensures { λ r. ⌜ r ≡ cond (finite p) (decide f32 level on off was) was ⌝ }
+{
+    if is_finite_f32(p) {
+        decided(level, on, off, was)
+    } else {
+        was
+    }
+}
+
+// The answer of a block by its lengths.
+pub fn block_lengths(table: usize, mpx: usize, pilot: usize, sum: usize, difference: usize) -> Answer
+    ensures { λ r. ⌜ (d : _) → says r ≡ blockSays f32 d table mpx pilot sum difference ⌝ }
+{
+    let a = then_input(table_rule(table), mpx, pilot);
+    then_output(then_output(a, mpx, sum), mpx, difference)
+}

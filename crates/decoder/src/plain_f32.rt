@@ -1,0 +1,92 @@
+// The plain f32 block: document 01's steps, one after the other (reference/stereo.rs).
+use crate::parts_f32::{
+    block_lengths, demodulated, error_of, gathered, level_of, moved, stereo_of, within, ReplyF32,
+    StepF32,
+};
+use crate::pll_f32::StereoPllF32;
+use phase::correction::correction_plain;
+use phase::lookup::{cos_f32, sine_at, sine_at_twice};
+use stereo::answer::{is_accepted, Answer};
+ghost use mathlib.Core.Path.{_≡_};
+ghost use lib.ListN.{length};
+ghost use Rattle.stereo.specs.Answer.{says};
+ghost use Rattle.decoder.specs.Machine.{nextOf, differenceOf, blockOf, Ran};
+ghost use Rattle.decoder.specs.Formats.{f32};
+ghost use Rattle.decoder.specs.Records.{pllF32};
+
+// One sample.
+fn step(table: &[f32], d: StereoPllF32, x: f32, p: f32) -> StepF32
+    ensures { λ r. ⌜ pllF32 (r .next) ≡ nextOf f32 (now (table .entry)) (pllF32 d) p ⌝ ∗ ⌜ r .difference ≡ differenceOf f32 (now (table .entry)) (pllF32 d) x p ⌝ }
+{
+    let c = cos_f32(table, d.phase);
+    let s = cos_f32(table, sine_at(d.phase));
+    let s2 = cos_f32(table, sine_at_twice(d.phase));
+    let e = error_of(p, c);
+    let level = level_of(p, s, d.beta, d.level);
+    let stereo = stereo_of(p, level, d.on, d.off, d.stereo);
+    let difference = demodulated(stereo & d.enabled, x, s2);
+    let integ = within(d.imax, gathered(d.integ, d.ki, e));
+    let correction = correction_plain(d.kp * e + integ);
+    StepF32 {
+        next: StereoPllF32 {
+            kp: d.kp,
+            ki: d.ki,
+            imax: d.imax,
+            beta: d.beta,
+            on: d.on,
+            off: d.off,
+            step0: d.step0,
+            phase: moved(d.phase, d.step0, correction),
+            integ,
+            level,
+            stereo,
+            enabled: d.enabled,
+        },
+        difference,
+    }
+}
+
+// The samples in order.
+fn run(
+    d: StereoPllF32,
+    table: &[f32],
+    mpx: &[f32],
+    pilot: &[f32],
+    sum: &mut [f32],
+    difference: &mut [f32],
+) -> StereoPllF32
+    requires { ⌜ (length (now pilot) ≡ length (now mpx)) × (length (now sum) ≡ length (now mpx)) × (length (now difference) ≡ length (now mpx)) ⌝ }
+    ensures { λ r. ⌜ Ran f32 (now (table .entry)) (now (mpx .entry)) (now (pilot .entry)) (pllF32 d) (now (sum .exit)) (now (difference .exit)) (pllF32 r) ⌝ }
+{
+    let mut st = d;
+    let mut i = 0usize;
+    while i < mpx.len() {
+        let x = mpx[i];
+        let p = pilot[i];
+        let o = step(table, st, x, p);
+        sum[i] = x;
+        difference[i] = o.difference;
+        st = o.next;
+        i += 1;
+    }
+    st
+}
+
+// A block, the plain way.
+pub fn block(
+    d: StereoPllF32,
+    table: &[f32],
+    mpx: &[f32],
+    pilot: &[f32],
+    sum: &mut [f32],
+    difference: &mut [f32],
+) -> ReplyF32
+    ensures { λ r. ⌜ record { said = says (r .answer); sum = now (sum .exit); difference = now (difference .exit); pll = pllF32 (r .decoder) } ≡ blockOf f32 (pllF32 d) (now (table .entry)) (now (mpx .entry)) (now (pilot .entry)) (now (sum .entry)) (now (difference .entry)) ⌝ }
+{
+    let answer = block_lengths(table.len(), mpx.len(), pilot.len(), sum.len(), difference.len());
+    if !is_accepted(answer) {
+        return ReplyF32 { answer, decoder: d };
+    }
+    let decoder = run(d, table, mpx, pilot, sum, difference);
+    ReplyF32 { answer, decoder }
+}
