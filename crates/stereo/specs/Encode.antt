@@ -6,8 +6,8 @@ use lib.ListN.{length, getD}
 use lib.IntN.{pos, negsuc}
 use lib.Ieee.{Float, nan, fin, binary32, binary64, add, sub, mul, div, le}
 use Rattle.phase.specs.Lookup.{sineAt, cosF32}
-use Rattle.phase.specs.Oscillator.{goodRate, turnOf, phaseSet, advanceOf}
-use Rattle.stereo.specs.Answer.{Said, accepts, firstOf, tableRule, inputRule, outputRule, kept}
+use Rattle.phase.specs.Oscillator.{goodRate, turnOf, phaseSet}
+use Rattle.stereo.specs.Answer.{Said, firstOf, tableRule, inputRule, outputRule, kept}
 use Rattle.stereo.specs.Samples.{samples}
 use Rattle.stereo.specs.Verdict.{inRange}
 use Rattle.stereo.specs.declared.encode.StereoEncode.{StereoEncode}
@@ -22,7 +22,7 @@ use Rattle.stereo.specs.declared.rds.SetEncodeRds.{SetEncodeRds}
 use Rattle.stereo.specs.declared.rds.SetEncodeRds.the-variants as setRds
 
 -- ---- construction: causes 1, 12, 13, 14, 15 in order, then 16
--- whole numbers as floats: 0, 1, 18000, 20000, 120000
+-- 18000 is 1125 * 2^4, 20000 is 625 * 2^5 and 120000 is 1875 * 2^6
 abbrev zero : Float
 zero = fin false 0 (pos 0)
 
@@ -68,6 +68,9 @@ setRdsOf e x = cond (goodLevel x) (setRds.Done (record { enc = e .enc; rds = x }
 abbrev pub encodeAt : StereoEncode → ℕ → StereoEncode
 encodeAt e p = record { nco = phaseSet (e .nco) p; main = e .main; pilot = e .pilot }
 
+abbrev pub rdsAt : StereoEncodeRds → ℕ → StereoEncodeRds
+rdsAt e p = record { enc = encodeAt (e .enc) p; rds = e .rds }
+
 -- ---- one sample, at the pilot's phase p
 -- m and d are the sum and the difference of left and right, rounded, then halved; the products come first, then the sums from left to right
 unfoldable pub multiplexOf : List Float → Float → Float → ℕ → Float → Float → Float
@@ -109,5 +112,5 @@ encodeRdsOf e table left right rds output =
     record {
       said = said;
       output = kept said (samples n (λ i. multiplexRdsOf table (e .enc .main) (e .enc .pilot) (e .rds) (phaseAt (e .enc) i) (getD left i nan) (getD right i nan) (getD rds i nan))) output;
-      encoder = kept said (record { enc = encodeAt (e .enc) (phaseAt (e .enc) n); rds = e .rds }) e;
+      encoder = kept said (rdsAt e (phaseAt (e .enc) n)) e;
     }

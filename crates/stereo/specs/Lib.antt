@@ -1,5 +1,5 @@
 pub mod Answer
 pub mod Samples
 pub mod Matrix
-
 pub mod Verdict
+pub mod Encode

@@ -2,7 +2,8 @@
 // the pilot's phase, and the pilot.
 use crate::answer::{is_accepted, table_rule, then_input, then_output, Answer};
 use phase::lookup::{cos_f32, sine_at, sine_at_twice};
-use phase::oscillator::Nco;
+use numbers::float::is_finite_f64;
+use phase::oscillator::{turn, Nco};
 ghost use mathlib.Core.Path.{_≡_};
 ghost use Prim.Native.Nat.{_+_, _*_, _%_, _^_};
 ghost use lib.ListN.{length, getD};
@@ -54,4 +55,126 @@ pub fn multiplex(table: &[f32], main: f32, pilot: f32, p: u32, left: f32, right:
     let m = (left + right) * 0.5;
     let d = (left - right) * 0.5;
     (main * m + (main * d) * s2) + pilot * s1
+}
+
+// The samples in order; the next phase comes back.
+fn run(e: StereoEncode, table: &[f32], left: &[f32], right: &[f32], output: &mut [f32]) -> u32
+    requires { ⌜ (length (now right) ≡ length (now left)) × (length (now output) ≡ length (now left)) ⌝ }
+    ensures { λ r. ⌜ r ≡ phaseAt e (length (now (left .entry))) ⌝ ∗ ⌜ now (output .exit) ≡ samples (length (now (left .entry))) (λ i. multiplexOf (now (table .entry)) (e .main) (e .pilot) (phaseAt e i) (getD (now (left .entry)) i nan) (getD (now (right .entry)) i nan)) ⌝ }
+{
+    let mut p = e.nco.phase;
+    let inc = e.nco.inc;
+    let mut i = 0usize;
+    while i < left.len() {
+        let l = left[i];
+        let r = right[i];
+        output[i] = multiplex(table, e.main, e.pilot, p, l, r);
+        p = std::num::wrapping_add_u32(p, inc);
+        i += 1;
+    }
+    p
+}
+
+impl StereoEncode {
+    // The causes 1, 12, 13, 14 and 15, in order.
+    pub fn new(frequency: f64, main: f32, pilot: f32, rate: f64) -> NewEncode
+        ensures { λ r. ⌜ r ≡ newEncodeOf frequency main pilot rate ⌝ }
+    {
+        if !(is_finite_f64(rate) & (rate > 0.0)) {
+            return NewEncode::Refused(1);
+        }
+        if !((frequency >= 18000.0) & (frequency <= 20000.0)) {
+            return NewEncode::Refused(12);
+        }
+        if !((main >= 0.0) & (main <= 1.0)) {
+            return NewEncode::Refused(13);
+        }
+        if !good_level(pilot) {
+            return NewEncode::Refused(14);
+        }
+        if !(rate >= 120000.0) {
+            return NewEncode::Refused(15);
+        }
+        let inc = turn(frequency / rate);
+        NewEncode::Made(StereoEncode {
+            nco: Nco { phase: 0, inc },
+            main,
+            pilot,
+        })
+    }
+
+    pub fn set_pilot(self, pilot: f32) -> SetEncode
+        ensures { λ r. ⌜ r ≡ setPilotOf self pilot ⌝ }
+    {
+        if !good_level(pilot) {
+            return SetEncode::Refused(14, self);
+        }
+        let nco = self.nco;
+        SetEncode::Done(StereoEncode {
+            nco,
+            main: self.main,
+            pilot,
+        })
+    }
+
+    pub fn pilot(self) -> f32
+        ensures { λ r. ⌜ r ≡ self .pilot ⌝ }
+    {
+        self.pilot
+    }
+
+    pub fn main(self) -> f32
+        ensures { λ r. ⌜ r ≡ self .main ⌝ }
+    {
+        self.main
+    }
+
+    pub fn phase(self) -> u32
+        ensures { λ r. ⌜ r ≡ self .nco .phase ⌝ }
+    {
+        self.nco.phase
+    }
+
+    pub fn set_phase(self, p: u32) -> StereoEncode
+        ensures { λ r. ⌜ r ≡ encodeAt self p ⌝ }
+    {
+        let inc = self.nco.inc;
+        StereoEncode {
+            nco: Nco { phase: p, inc },
+            main: self.main,
+            pilot: self.pilot,
+        }
+    }
+
+    pub fn increment(self) -> u32
+        ensures { λ r. ⌜ r ≡ self .nco .inc ⌝ }
+    {
+        self.nco.inc
+    }
+
+    pub fn reset(self) -> StereoEncode
+        ensures { λ r. ⌜ r ≡ encodeAt self 0 ⌝ }
+    {
+        self.set_phase(0)
+    }
+
+    // A block of left and right to the multiplex.
+    pub fn encode(self, table: &[f32], left: &[f32], right: &[f32], output: &mut [f32]) -> EncodeReply
+        ensures { λ r. ⌜ record { said = says (r .answer); output = now (output .exit); encoder = r .encoder } ≡ encodeOf self (now (table .entry)) (now (left .entry)) (now (right .entry)) (now (output .entry)) ⌝ }
+    {
+        let n = left.len();
+        let a = then_input(table_rule(table.len()), n, right.len());
+        let answer = then_output(a, n, output.len());
+        if !is_accepted(answer) {
+            return EncodeReply {
+                answer,
+                encoder: self,
+            };
+        }
+        let p = run(self, table, left, right, output);
+        EncodeReply {
+            answer,
+            encoder: self.set_phase(p),
+        }
+    }
 }

@@ -1,5 +1,6 @@
 // The stereo matrix, the multiplex encoders and the on-air verdict.
 pub mod answer;
-
+pub mod encode;
 pub mod matrix;
+pub mod rds;
 pub mod verdict;
