@@ -4,7 +4,7 @@ use mathlib.Core.Bool.{Bool, true, false, cond}
 use mathlib.Core.List.{List, [], _∷_, _++_}
 use mathlib.Core.Path.{_≡_}
 use lib.ListN.{length, getD}
-use Rattle.stereo.specs.Answer.{Said, accepted, accepts}
+use Rattle.blocks.specs.Answer.{Said, accepted, accepts}
 use Rattle.decoder.specs.Machine.{Pll, Arithmetic, stateAt, Blocked, blockOf, enabledOf, resetOf}
 
 -- a call with what it brings: table, mpx, pilot, and what the two outputs held

@@ -1,7 +1,7 @@
 -- The two formats' arithmetic. Source: document 01, "The plain machine, one sample", what each step says for f32 and for Q15, and the unfit Q15 record. Definitions only.
 use Prim.Native.Nat.{ℕ, _+_, _^_}
 use mathlib.Core.Bool.{Bool, true, false, not, _&&_, _||_}
-use mathlib.Core.List.{List}
+use mathlib.Core.List.{List, [], _∷_}
 use lib.Dec.{leb, ltb}
 use lib.IntN.{ℤ, pos, negsuc, negℤ, _+ℤ_, _-ℤ_, _*ℤ_}
 use lib.Signed.{ltZ, leZ}
@@ -37,6 +37,11 @@ f32 = record {
   fit = λ d. true;
 }
 
+-- every sample of a pilot is finite
+abbrev pub allFinite : List Float → Bool
+allFinite [] = true
+allFinite (p ∷ ps) = finite p && allFinite ps
+
 -- Q15: exact in the integers
 unfoldable pub levelQ15 : ℤ → ℤ → ℤ → ℤ
 levelQ15 beta level q = level +ℤ beta *ℤ (q -ℤ roundShiftOf level 31)
@@ -59,6 +64,10 @@ levelLow = negsuc 2305843010287435775
 
 abbrev pub levelHigh : ℤ
 levelHigh = pos 2305843010287435775
+
+-- beta and the level within their bounds
+abbrev pub levelFit : ℤ → ℤ → Bool
+levelFit beta level = withinZ (pos 0) (pos (2 ^ 31)) beta && withinZ levelLow levelHigh level
 
 unfoldable pub fitQ15 : Pll ℤ → Bool
 fitQ15 d =

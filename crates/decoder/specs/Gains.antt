@@ -5,10 +5,9 @@ use lib.IntN.{ℤ, pos, negsuc}
 use lib.Ieee.{Float, fin, Format, binary32, binary64, ofBits, add, mul, div, lt, le, eq}
 use lib.Ieee.Scale.{finite}
 use Rattle.numbers.specs.Integers.{modZ}
-use Rattle.numbers.specs.Floats.{floorOf, absOf, toFormat}
+use Rattle.numbers.specs.Floats.{floorOf, absOf, toFormat, inRange}
 use Rattle.numbers.specs.Scaled.{scaledOf}
 use Rattle.phase.specs.Oscillator.{goodRate}
-use Rattle.stereo.specs.Verdict.{inRange}
 use Rattle.decoder.specs.Machine.{Pll}
 use Rattle.decoder.specs.Formats.{fits64, guardOf}
 

@@ -5,8 +5,8 @@ use mathlib.Core.List.{List}
 use mathlib.Core.Path.{_≡_}
 use lib.ListN.{length, getD}
 use Rattle.phase.specs.Lookup.{sineAt}
-use Rattle.stereo.specs.Answer.{Said, accepted, turned, firstOf, tableRule, inputRule, outputRule, kept}
-use Rattle.stereo.specs.Samples.{samples}
+use Rattle.blocks.specs.Answer.{Said, accepted, turned, firstOf, tableRule, inputRule, outputRule, kept}
+use Rattle.blocks.specs.Samples.{samples}
 
 -- the machine's state: the record's fields
 pub record Pll (A : Type 0) : Type 0 where
@@ -115,22 +115,23 @@ module _ {A : Type 0} (F : Arithmetic A) where
     pub differences : difference ≡ samples (length mpx) (λ i. differenceOf F t (stateAt F t pilot d i) (getD mpx i (F .nought)) (getD pilot i (F .nought)))
     pub state : next ≡ stateAt F t pilot d (length mpx)
 
--- a block: causes 0, 9, 10, 11 in order; otherwise its samples in order
+-- the causes 9, 10, 11 in order, by the lengths
+abbrev pub lengthsSay : ℕ → ℕ → ℕ → ℕ → ℕ → Said
+lengthsSay table mpx pilot sum difference = firstOf (firstOf (firstOf (tableRule table) (inputRule mpx pilot)) (outputRule mpx sum)) (outputRule mpx difference)
+
+-- a block: cause 0, then those; otherwise its samples in order
 module _ {A : Type 0} (F : Arithmetic A) where
   abbrev pub blockSays : Pll A → ℕ → ℕ → ℕ → ℕ → ℕ → Said
-  blockSays d table mpx pilot sum difference =
-      firstOf (firstOf (firstOf (firstOf (cond (F .fit d) accepted (turned 0)) (tableRule table)) (inputRule mpx pilot)) (outputRule mpx sum)) (outputRule mpx difference)
+  blockSays d table mpx pilot sum difference = firstOf (cond (F .fit d) accepted (turned 0)) (lengthsSay table mpx pilot sum difference)
 
   unfoldable pub blockOf : Pll A → List A → List A → List A → List A → List A → Blocked A
   blockOf d t mpx pilot sum difference =
       let n = length mpx in
       let said = blockSays d (length t) n (length pilot) (length sum) (length difference) in
-      let x = λ (i : ℕ). getD mpx i (F .nought) in
-      let p = λ (i : ℕ). getD pilot i (F .nought) in
       record {
         said = said;
-        sum = kept said (samples n x) sum;
-        difference = kept said (samples n (λ i. differenceOf F t (stateAt F t pilot d i) (x i) (p i))) difference;
+        sum = kept said (samples n (λ i. getD mpx i (F .nought))) sum;
+        difference = kept said (samples n (λ i. differenceOf F t (stateAt F t pilot d i) (getD mpx i (F .nought)) (getD pilot i (F .nought)))) difference;
         pll = kept said (stateAt F t pilot d n) d;
       }
 

@@ -5,8 +5,8 @@ use lib.Ieee.{Float}
 use Rattle.decoder.specs.Machine.{Pll}
 use Rattle.decoder.specs.Gains.{Gains, Built, made, refused}
 use Rattle.decoder.specs.declared.gains.LoopGains.{LoopGains}
-use Rattle.decoder.specs.declared.gains.Common.{Common}
-use Rattle.decoder.specs.declared.gains.Common.the-variants as common
+use Rattle.decoder.specs.declared.gains.Checked.{Checked}
+use Rattle.decoder.specs.declared.gains.Checked.the-variants as checked
 use Rattle.decoder.specs.declared.pll_f32.StereoPllF32.{StereoPllF32}
 use Rattle.decoder.specs.declared.pll_f32.NewF32.{NewF32}
 use Rattle.decoder.specs.declared.pll_f32.NewF32.the-variants as newF32
@@ -17,9 +17,9 @@ use Rattle.decoder.specs.declared.pll_q15.NewQ15.the-variants as newQ15
 abbrev pub gains : LoopGains → Gains
 gains g = record { kp = g .kp; ki = g .ki; imax = g .imax; beta = g .beta; on = g .on; off = g .off; step0 = g .step0 }
 
-abbrev pub saysCommon : Common → Built Gains
-saysCommon (common.Good g) = made (gains g)
-saysCommon (common.Refused n) = refused n
+abbrev pub saysCommon : Checked → Built Gains
+saysCommon (checked.Good g) = made (gains g)
+saysCommon (checked.Refused n) = refused n
 
 abbrev pub pllF32 : StereoPllF32 → Pll Float
 pllF32 d = record {

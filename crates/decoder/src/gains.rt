@@ -22,7 +22,7 @@ pub struct LoopGains {
 }
 
 // The gains, or the number of the refusal.
-pub enum Common {
+pub enum Checked {
     Good(LoopGains),
     Refused(u32),
 }
@@ -69,27 +69,27 @@ fn are_narrow(g: LoopGains) -> bool
 }
 
 // The causes 1 to 6, in order.
-pub fn common(pilot: f64, natural: f64, level: f64, beta: f64, rate: f64) -> Common
+pub fn common(pilot: f64, natural: f64, level: f64, beta: f64, rate: f64) -> Checked
     ensures { λ r. ⌜ saysCommon r ≡ commonOf pilot natural level beta rate ⌝ }
 {
     if !is_positive(rate) {
-        return Common::Refused(1);
+        return Checked::Refused(1);
     }
     if !(is_positive(pilot) & (pilot < rate / 4.0)) {
-        return Common::Refused(2);
+        return Checked::Refused(2);
     }
     if !(is_positive(natural) & (natural <= pilot / 100.0)) {
-        return Common::Refused(3);
+        return Checked::Refused(3);
     }
     if !(is_positive(level) & (level <= 1.0)) {
-        return Common::Refused(4);
+        return Checked::Refused(4);
     }
     if !((beta >= 0.0) & (beta <= 1.0)) {
-        return Common::Refused(5);
+        return Checked::Refused(5);
     }
     let g = gains_of(pilot, natural, level, beta, rate);
     if !are_narrow(g) {
-        return Common::Refused(6);
+        return Checked::Refused(6);
     }
-    Common::Good(g)
+    Checked::Good(g)
 }

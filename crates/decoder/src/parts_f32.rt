@@ -1,18 +1,16 @@
 // The parts of a sample's steps that the f32 loops share.
 use crate::pll_f32::StereoPllF32;
 use numbers::float::{flush_denormal, is_finite_f32};
-use stereo::answer::{table_rule, then_input, then_output, Answer};
+use blocks::answer::Answer;
 ghost use mathlib.Core.Path.{_≡_};
 ghost use mathlib.Core.Bool.{cond};
 ghost use Prim.Native.Nat.{_+_, _%_, _^_};
 ghost use lib.Ieee as Ieee;
 ghost use lib.Ieee.{binary32};
 ghost use lib.Ieee.Scale.{finite};
-ghost use Rattle.stereo.specs.Answer.{says};
-ghost use Rattle.decoder.specs.Machine.{decide, limited, blockSays};
+ghost use Rattle.decoder.specs.Machine.{decide, limited};
 ghost use Rattle.decoder.specs.Formats.{f32, levelF32, gatherF32};
 ghost use Rattle.decoder.specs.Gains.{nought};
-ghost use Rattle.decoder.specs.Records.{pllF32};
 
 // A decoder after a sample, and the sample's difference output.
 pub struct StepF32 {
@@ -94,12 +92,4 @@ pub fn stereo_of(p: f32, level: f32, on: f32, off: f32, was: bool) -> bool
     } else {
         was
     }
-}
-
-// The answer of a block by its lengths.
-pub fn block_lengths(table: usize, mpx: usize, pilot: usize, sum: usize, difference: usize) -> Answer
-    ensures { λ r. ⌜ (d : _) → says r ≡ blockSays f32 d table mpx pilot sum difference ⌝ }
-{
-    let a = then_input(table_rule(table), mpx, pilot);
-    then_output(then_output(a, mpx, sum), mpx, difference)
 }

@@ -1,15 +1,16 @@
 // The plain f32 block: document 01's steps, one after the other (reference/stereo.rs).
+use crate::lengths::block_lengths;
 use crate::parts_f32::{
-    block_lengths, demodulated, error_of, gathered, level_of, moved, stereo_of, within, ReplyF32,
+    demodulated, error_of, gathered, level_of, moved, stereo_of, within, ReplyF32,
     StepF32,
 };
 use crate::pll_f32::StereoPllF32;
 use phase::correction::correction_plain;
 use phase::lookup::{cos_f32, sine_at, sine_at_twice};
-use stereo::answer::{is_accepted, Answer};
+use blocks::answer::is_accepted;
 ghost use mathlib.Core.Path.{_≡_};
 ghost use lib.ListN.{length};
-ghost use Rattle.stereo.specs.Answer.{says};
+ghost use Rattle.blocks.specs.Answer.{says};
 ghost use Rattle.decoder.specs.Machine.{nextOf, differenceOf, blockOf, Ran};
 ghost use Rattle.decoder.specs.Formats.{f32};
 ghost use Rattle.decoder.specs.Records.{pllF32};

@@ -1,5 +1,5 @@
 // The f32 decoder's record: construction, the calls that only set fields, and the read-outs.
-use crate::gains::{common, Common, LoopGains};
+use crate::gains::{common, Checked, LoopGains};
 use numbers::float::{f32_to_f64, f64_to_f32};
 ghost use mathlib.Core.Path.{_≡_};
 ghost use mathlib.Core.Bool.{true, false};
@@ -54,8 +54,8 @@ impl StereoPllF32 {
         ensures { λ r. ⌜ saysF32 r ≡ newF32Of pilot natural level beta rate ⌝ }
     {
         match common(pilot, natural, level, beta, rate) {
-            Common::Good(g) => NewF32::Made(fresh(g)),
-            Common::Refused(n) => NewF32::Refused(n),
+            Checked::Good(g) => NewF32::Made(fresh(g)),
+            Checked::Refused(n) => NewF32::Refused(n),
         }
     }
 

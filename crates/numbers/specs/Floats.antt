@@ -2,9 +2,9 @@
 -- `fin s m e` is the number m * 2^e, negative where s is true: the fraction m * up e / down e. `round f s num den` is the value of the format f nearest to num/den,
 -- a tie to the even one, with the sign s; it alone knows the format, subnormal values and the overflow to infinity (lib.Ieee, the kit's account of IEEE 754).
 use Prim.Native.Nat.{ℕ, _*_}
-use mathlib.Core.Bool.{Bool, false, cond}
+use mathlib.Core.Bool.{Bool, false, _&&_, cond}
 use lib.IntN.{pos, negsuc}
-use lib.Ieee.{Float, nan, inf, fin, up, down, Format, binary64, round, lt}
+use lib.Ieee.{Float, nan, inf, fin, up, down, Format, binary64, round, lt, le}
 use Rattle.rounding.specs.Cut.{Rule, downward, halfEven, cutBy}
 
 -- x cut to a whole number by a rule. The sign stays, also of a zero; an infinity and a NaN stay.
@@ -40,3 +40,7 @@ tiny = fin false 332307 (negsuc 117)
 -- below `tiny` in magnitude it becomes plus 0; a NaN is below nothing, and stays
 unfoldable pub flushOf : Float → Float
 flushOf x = cond (lt (absOf x) tiny) (fin false 0 (pos 0)) x
+
+-- lo ≤ x ≤ hi: a NaN is in no range, and minus zero counts as 0
+abbrev pub inRange : Float → Float → Float → Bool
+inRange lo hi x = le lo x && le x hi

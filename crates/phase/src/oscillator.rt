@@ -1,7 +1,12 @@
 // The numerically controlled oscillator of kernels/mix.rs.
 ghost use mathlib.Core.Path.{_≡_};
 ghost use Rattle.phase.specs.Oscillator.{
-    incrementOf, newBy, setBy, phaseSet, advanceOf, turnOf
+  incrementOf,
+  newBy,
+  setBy,
+  phaseSet,
+  advanceOf,
+  turnOf,
 };
 
 // The phase before the next sample, and what each sample adds to it.
@@ -29,7 +34,7 @@ pub enum SetNco {
 }
 
 // The increment of a finite number of cycles a sample.
-fn turn(cycles: f64) -> u32
+pub fn turn(cycles: f64) -> u32
     ensures { λ r. ⌜ r ≡ turnOf cycles ⌝ }
 {
     let frac = cycles - numbers::float::floor_f64(cycles);

@@ -1,0 +1,183 @@
+// The fast f32 block (fallback/stereo.rs): one scan of the pilot decides whether the test of each
+// sample may be dropped, the cosine and the sine come from one index, and the correction is the
+// fast one.
+use crate::lengths::block_lengths;
+use crate::parts_f32::{
+    decided, demodulated, error_of, gathered, level_next, level_of, moved, stereo_of, within,
+    ReplyF32, StepF32,
+};
+use crate::pll_f32::StereoPllF32;
+use blocks::answer::is_accepted;
+use phase::correction::correction_fast;
+use phase::lookup::{cos_f32, interp_f32_pair, sine_at_twice};
+ghost use mathlib.Core.Path.{_≡_};
+ghost use mathlib.Core.Bool.{true};
+ghost use lib.ListN.{length};
+ghost use lib.Ieee.Scale.{finite};
+ghost use Rattle.blocks.specs.Answer.{says};
+ghost use Rattle.decoder.specs.Machine.{nextOf, differenceOf, blockOf, Ran};
+ghost use Rattle.decoder.specs.Formats.{f32, allFinite};
+ghost use Rattle.decoder.specs.Records.{pllF32};
+
+// Whether x is finite, by its pattern with the sign bit masked off; a NaN has no pattern to look
+// at, and is told apart before.
+fn is_finite_pattern(x: f32) -> bool
+    ensures { λ r. ⌜ r ≡ finite x ⌝ }
+{
+    if x != x {
+        return false;
+    }
+    f32::to_bits(x) % 2147483648 < 2139095040
+}
+
+// Whether every sample of the pilot is finite.
+pub fn scan(pilot: &[f32]) -> bool
+    ensures { λ r. ⌜ r ≡ allFinite (now (pilot .entry)) ⌝ }
+{
+    let mut ok = true;
+    let mut i = 0usize;
+    while i < pilot.len() {
+        let f = is_finite_pattern(pilot[i]);
+        ok = ok & f;
+        i += 1;
+    }
+    ok
+}
+
+// One sample whose pilot may not be finite.
+fn step_checked(table: &[f32], d: StereoPllF32, x: f32, p: f32) -> StepF32
+    ensures { λ r. ⌜ pllF32 (r .next) ≡ nextOf f32 (now (table .entry)) (pllF32 d) p ⌝ ∗ ⌜ r .difference ≡ differenceOf f32 (now (table .entry)) (pllF32 d) x p ⌝ }
+{
+    let k = interp_f32_pair(table, d.phase);
+    let s2 = cos_f32(table, sine_at_twice(d.phase));
+    let e = error_of(p, k.c);
+    let level = level_of(p, k.s, d.beta, d.level);
+    let stereo = stereo_of(p, level, d.on, d.off, d.stereo);
+    let difference = demodulated(stereo & d.enabled, x, s2);
+    let integ = within(d.imax, gathered(d.integ, d.ki, e));
+    let correction = correction_fast(d.kp * e + integ);
+    StepF32 {
+        next: StereoPllF32 {
+            kp: d.kp,
+            ki: d.ki,
+            imax: d.imax,
+            beta: d.beta,
+            on: d.on,
+            off: d.off,
+            step0: d.step0,
+            phase: moved(d.phase, d.step0, correction),
+            integ,
+            level,
+            stereo,
+            enabled: d.enabled,
+        },
+        difference,
+    }
+}
+
+// One sample whose pilot is finite, without the test.
+fn step_clean(table: &[f32], d: StereoPllF32, x: f32, p: f32) -> StepF32
+    requires { ⌜ finite p ≡ true ⌝ }
+    ensures { λ r. ⌜ pllF32 (r .next) ≡ nextOf f32 (now (table .entry)) (pllF32 d) p ⌝ ∗ ⌜ r .difference ≡ differenceOf f32 (now (table .entry)) (pllF32 d) x p ⌝ }
+{
+    let k = interp_f32_pair(table, d.phase);
+    let s2 = cos_f32(table, sine_at_twice(d.phase));
+    let e = p * k.c;
+    let level = level_next(d.beta, d.level, p * k.s);
+    let stereo = decided(level, d.on, d.off, d.stereo);
+    let difference = demodulated(stereo & d.enabled, x, s2);
+    let integ = within(d.imax, gathered(d.integ, d.ki, e));
+    let correction = correction_fast(d.kp * e + integ);
+    StepF32 {
+        next: StereoPllF32 {
+            kp: d.kp,
+            ki: d.ki,
+            imax: d.imax,
+            beta: d.beta,
+            on: d.on,
+            off: d.off,
+            step0: d.step0,
+            phase: moved(d.phase, d.step0, correction),
+            integ,
+            level,
+            stereo,
+            enabled: d.enabled,
+        },
+        difference,
+    }
+}
+
+// The samples in order, each tested.
+fn run_checked(
+    d: StereoPllF32,
+    table: &[f32],
+    mpx: &[f32],
+    pilot: &[f32],
+    sum: &mut [f32],
+    difference: &mut [f32],
+) -> StereoPllF32
+    requires { ⌜ (length (now pilot) ≡ length (now mpx)) × (length (now sum) ≡ length (now mpx)) × (length (now difference) ≡ length (now mpx)) ⌝ }
+    ensures { λ r. ⌜ Ran f32 (now (table .entry)) (now (mpx .entry)) (now (pilot .entry)) (pllF32 d) (now (sum .exit)) (now (difference .exit)) (pllF32 r) ⌝ }
+{
+    let mut st = d;
+    let mut i = 0usize;
+    while i < mpx.len() {
+        let x = mpx[i];
+        let p = pilot[i];
+        let o = step_checked(table, st, x, p);
+        sum[i] = x;
+        difference[i] = o.difference;
+        st = o.next;
+        i += 1;
+    }
+    st
+}
+
+// The samples in order, none of which needs the test.
+fn run_clean(
+    d: StereoPllF32,
+    table: &[f32],
+    mpx: &[f32],
+    pilot: &[f32],
+    sum: &mut [f32],
+    difference: &mut [f32],
+) -> StereoPllF32
+    requires { ⌜ (length (now pilot) ≡ length (now mpx)) × (length (now sum) ≡ length (now mpx)) × (length (now difference) ≡ length (now mpx)) × (allFinite (now pilot) ≡ true) ⌝ }
+    ensures { λ r. ⌜ Ran f32 (now (table .entry)) (now (mpx .entry)) (now (pilot .entry)) (pllF32 d) (now (sum .exit)) (now (difference .exit)) (pllF32 r) ⌝ }
+{
+    let mut st = d;
+    let mut i = 0usize;
+    while i < mpx.len() {
+        let x = mpx[i];
+        let p = pilot[i];
+        let o = step_clean(table, st, x, p);
+        sum[i] = x;
+        difference[i] = o.difference;
+        st = o.next;
+        i += 1;
+    }
+    st
+}
+
+// A block, the fast way.
+pub fn block(
+    d: StereoPllF32,
+    table: &[f32],
+    mpx: &[f32],
+    pilot: &[f32],
+    sum: &mut [f32],
+    difference: &mut [f32],
+) -> ReplyF32
+    ensures { λ r. ⌜ record { said = says (r .answer); sum = now (sum .exit); difference = now (difference .exit); pll = pllF32 (r .decoder) } ≡ blockOf f32 (pllF32 d) (now (table .entry)) (now (mpx .entry)) (now (pilot .entry)) (now (sum .entry)) (now (difference .entry)) ⌝ }
+{
+    let answer = block_lengths(table.len(), mpx.len(), pilot.len(), sum.len(), difference.len());
+    if !is_accepted(answer) {
+        return ReplyF32 { answer, decoder: d };
+    }
+    if scan(pilot) {
+        let decoder = run_clean(d, table, mpx, pilot, sum, difference);
+        return ReplyF32 { answer, decoder };
+    }
+    let decoder = run_checked(d, table, mpx, pilot, sum, difference);
+    ReplyF32 { answer, decoder }
+}

@@ -1,0 +1,61 @@
+// The parts of a sample's steps that the Q15 loops share. Some ask for the bounds that a fit record
+// gives; no sum or product then passes an i64.
+use crate::pll_q15::StereoPllQ15;
+use blocks::answer::Answer;
+ghost use mathlib.Core.Path.{_≡_};
+ghost use mathlib.Core.Bool.{cond};
+ghost use Prim.Native.Nat.{_+_, _*_, _≤_, _<_, _^_};
+ghost use lib.IntN.{pos, natAbs, _+ℤ_, _*ℤ_};
+ghost use lib.Signed.{nonNeg};
+ghost use lib.Dec.{T};
+ghost use Rattle.decoder.specs.Machine.{decide, limited};
+ghost use Rattle.decoder.specs.Formats.{q15};
+
+// A decoder after a sample, and the sample's difference output.
+pub struct StepQ15 {
+    pub next: StereoPllQ15,
+    pub difference: i16,
+}
+
+// A decoder after a block, and the block's answer.
+pub struct ReplyQ15 {
+    pub answer: Answer,
+    pub decoder: StereoPllQ15,
+}
+
+pub fn decided(level: i64, on: i64, off: i64, was: bool) -> bool
+    ensures { λ r. ⌜ r ≡ decide q15 level on off was ⌝ }
+{
+    if level >= on {
+        true
+    } else if level < off {
+        false
+    } else {
+        was
+    }
+}
+
+// Within -imax..=imax; a negative imax is not fit, and -imax passes the largest i64 at the
+// smallest one.
+pub(crate) fn within(imax: i64, x: i64) -> i64
+    requires { ⌜ T (nonNeg imax) ⌝ }
+    ensures { λ r. ⌜ r ≡ limited q15 imax x ⌝ }
+{
+    let y = if x > imax { imax } else { x };
+    if y < -imax { -imax } else { y }
+}
+
+// The difference output: the demodulated sample, or silence.
+pub fn selected(on: bool, difference: i16) -> i16
+    ensures { λ r. ⌜ r ≡ cond on difference (pos 0) ⌝ }
+{
+    if on { difference } else { 0 }
+}
+
+// offset + gain * e, for an error of at most 2^30 in size.
+pub(crate) fn scaled_sum(gain: i64, e: i64, offset: i64) -> i64
+    requires { ⌜ natAbs e ≤ 2 ^ 30 ⌝ ∗ ⌜ natAbs gain * 2 ^ 30 + natAbs offset < 2 ^ 63 ⌝ }
+    ensures { λ r. ⌜ r ≡ gain *ℤ e +ℤ offset ⌝ }
+{
+    gain * e + offset
+}
