@@ -1,1 +1,2 @@
 pub mod Cosine
+pub mod Between

@@ -1,14 +1,15 @@
 -- Linear arithmetic on ℤ by `omega`, which reads ℕ alone. `up z` and `dn z` are z's part above 0 and its part below 0: z is up z − dn z.
 -- A law turns a sum, a test or a fit into a linear fact of these numbers, which goes into `omega`'s list; a law that ends `-in` goes back. Assumes nothing.
 use Prim.Native.Nat.{ℕ, zero, suc, _+_, _-_, _*_, _/_, _%_, _^_, _<_, _≤_}
-use mathlib.Core.Path.{_≡_, refl, sym, ap, _∙_}
+use mathlib.Core.Path.{_≡_, refl, sym, ap, _∙_, subst}
 use mathlib.Core.Bool.{Bool, true, false, cond, true≢false, false≢true}
 use native.Mathlib.Omega.{arith}
 use native.Mathlib.Nat.{div-add-mod', mod-lt, suc-mul, mul-le-mul, mul-zero, not-le-of-lt}
 use borrow.Author.Tests.{ltb-true, ltb-false, leb-true, leb-false}
-use lib.Dec.{ltb}
+use lib.Dec.{T, ltb}
 use lib.IntN.{ℤ, pos, negsuc, negℤ, natAbs, subℕ, _+ℤ_, _-ℤ_, _*ℤ_}
-use lib.Signed.{mag, ltZ, leZ, shrZ, natAbs-le}
+use lib.Signed.{mag, ltZ, leZ, _≤ℤ_, shrZ, natAbs-le}
+use lib.Ieee.Bits.{is-true}
 use mir.Syntax.{Width}
 use mir.Val.{SFits, hbits, toZ, ofZ}
 use mir.Facts.{toZ-ofZ}
@@ -94,6 +95,13 @@ le-yes-in a b h = yes (leZ a b) (λ e. not-le-of-lt (le-no a b e) h)
 pub le-no-in : (a b : ℤ) → up b + dn a < up a + dn b → leZ a b ≡ false
 le-no-in a b h = no (leZ a b) (λ e. not-le-of-lt h (le-yes a b e))
 
+-- ---- the order as a fact
+pub order-out : {a b : ℤ} → a ≤ℤ b → up a + dn b ≤ up b + dn a
+order-out {a} {b} h = le-yes a b (is-true (leZ a b) (h .le))
+
+pub order-in : (a b : ℤ) → up a + dn b ≤ up b + dn a → a ≤ℤ b
+order-in a b h = record { le = subst T (sym (le-yes-in a b h)) tt }
+
 -- ---- bounds: -k ≤ z < k is `mag z < k`, and a fit is such a bound
 pub mag-out : (k : ℕ) (z : ℤ) → mag z < k → (up z < dn z + k) × (dn z ≤ up z + k)
 mag-out k (pos n) h = (omega arith, omega arith)
@@ -109,10 +117,21 @@ fit-out {w} {z} f = mag-out (2 ^ hbits w) z (f .sfits)
 pub fit-in : (w : Width) (z : ℤ) → up z < dn z + 2 ^ hbits w → dn z ≤ up z + 2 ^ hbits w → SFits w z
 fit-in w z h k = record { sfits = mag-in (2 ^ hbits w) z h k }
 
+-- what lies between two numbers that fit
+pub fit-between : {w : Width} {a b z : ℤ} → SFits w a → SFits w b → a ≤ℤ z → z ≤ℤ b → SFits w z
+fit-between {w} {a} {b} {z} f g h k =
+    let x = order-out h in
+    let y = order-out k in
+    fit-in w z (omega (arith, fit-out g)) (omega (arith, fit-out f))
+
 -- ---- |z|
 pub abs-out : (z : ℤ) → up z + dn z ≡ natAbs z
 abs-out (pos n) = omega arith
 abs-out (negsuc n) = omega arith
+
+pub abs-in : (k : ℕ) (z : ℤ) → up z ≤ dn z + k → dn z ≤ up z + k → natAbs z ≤ k
+abs-in k (pos n) h l = omega arith
+abs-in k (negsuc n) h l = omega arith
 
 -- a fit from a bound on |z|, and the bound from a fit
 pub abs-fits : (w : Width) (z : ℤ) {k : ℕ} → natAbs z ≤ k → k < 2 ^ hbits w → SFits w z
