@@ -5,7 +5,7 @@ use mathlib.Core.Bool.{Bool, true, false, not, cond}
 use mathlib.Core.Logic.{_⊎_, inl, inr}
 use native.Mathlib.Omega.{arith}
 use native.Mathlib.Numerals.{add-one}
-use native.Mathlib.Nat.{add-zero, add-mul, one-mul, zero-mul, mul-comm, mul-right-comm, mul-lt-mul-of-pos-right, lt-of-mul-lt-mul-right, eq-of-mul-eq-mul-right, zero-add, div-eq-of-lt, mod-eq-of-lt, div-div-eq-div-mul, div-add-mod', mod-lt, lt-of-le-of-lt, lt-of-lt-of-le, le-of-eq}
+use native.Mathlib.Nat.{add-zero, add-mul, one-mul, zero-mul, mul-comm, mul-right-comm, mul-lt-mul-of-pos-right, lt-of-mul-lt-mul-right, eq-of-mul-eq-mul-right, zero-add, div-eq-of-lt, div-eq-of-lt-le, mod-eq-of-lt, div-div-eq-div-mul, div-add-mod', mod-lt, lt-of-le-of-lt, lt-of-lt-of-le, le-of-eq}
 use borrow.Author.Tests.{eq-eqb, ne-eqb, lt-ltb, le-ltb, eqb-true, eqb-false, ltb-true, ltb-false}
 use lib.Dec.{T, isLe, isEq, leb→le, nleb→lt, eqb→eq, eqb-refl, eqb, ltb, lit<}
 use lib.Arith.{mod-mul}
@@ -255,3 +255,16 @@ cut-closest s a b B = by (restOf (a % b) b) (rest-falls (a % b) b)
     by less h = add-zero q ∙ ap (nearest q) (sym (is-lt (a % b * 2) b (h .1)))
     by half h = tie (eqb (q % 2) 1) refl ∙ ap (nearest q) (sym (is-eq (a % b * 2) b (h .1)))
     by more h = add-one q ∙ ap (nearest q) (sym (is-gt (a % b * 2) b h))
+
+-- the greatest whole number is the quotient
+pub greatest-div : (a b n : ℕ) → Greatest false a b n → a / b ≡ n
+greatest-div a b n h = div-eq-of-lt-le b (h .0) (omega (arith, add-mul n 1 b, one-mul b))
+
+-- the nearest whole number is the greatest one, or the next where it lies above the fraction
+pub closest-rose : (a b : ℕ) → 0 < b → closest a b ≡ a / b + cond (ltb a (closest a b * b)) 1 0
+unfolding cutBy
+closest-rose a b B = by (grows halfEven false (eqb (a / b % 2) 1) (restOf (a % b) b)) (closest a b) (sym (cut-closest false a b B))
+  where
+    by : (t : Bool) (n : ℕ) → n ≡ a / b + cond t 1 0 → n ≡ a / b + cond (ltb a (n * b)) 1 0
+    by true n e = e ∙ rw (lt-ltb a (n * b) (omega (arith, ap (λ (z : ℕ). z * b) e, grown (a / b) b (a / b * b) refl, div-add-mod' a b, mod-lt a B)))
+    by false n e = e ∙ rw (le-ltb a (n * b) (omega (arith, ap (λ (z : ℕ). z * b) e, kept (a / b) b (a / b * b) refl, div-add-mod' a b)))
