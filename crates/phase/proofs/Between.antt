@@ -1,12 +1,13 @@
 -- The Q15 lookup lies between the two entries, so that nothing in it is limited, also in 32 bits. Assumes nothing.
-use Prim.Native.Nat.{ℕ, suc, _+_, _*_, _/_, _%_, _^_, _≤_, _<_}
+use Prim.Native.Nat.{ℕ, suc, _+_, _*_, _/_, _^_, _≤_, _<_}
 use mathlib.Core.Path.{_≡_, refl, sym, ap, _∙_}
+use mathlib.Core.Bool.{Bool, true, false, cond}
 use mathlib.Core.List.{List}
 use mathlib.Core.Logic.{_⊎_, inl, inr}
 use native.Mathlib.Omega.{arith}
 use native.Mathlib.Nat.{mul-le-mul-left, mod-lt}
 use borrow.Author.Tests.{lt-ltb, le-ltb}
-use lib.Dec.{T, leb, lit<}
+use lib.Dec.{T, leb, ltb, lit<}
 use lib.ListN.{length, getD}
 use lib.IntN.{ℤ, pos, negsuc, negℤ, natAbs, _+ℤ_, _-ℤ_, _*ℤ_}
 use lib.Signed.{mag, _≤ℤ_, shrZ}
@@ -15,7 +16,7 @@ use mir.Val.{SFits, hbits, toZ, ofZ}
 use mir.Facts.{sfits-widen, toZ-ofZ}
 use Rattle.rounding.proofs.Lin.{back, up, dn, add-law, sub-law', up-neg, dn-neg, order-in, fit-out, fit-between, abs-in, abs-out, abs-fits, add-le, mul-le, shr-law}
 use Rattle.numbers.specs.Integers.{roundShiftOf}
-use Rattle.numbers.proofs.Integers.{round-is, sat-same}
+use Rattle.numbers.proofs.Integers.{round-is, sat-same, sat-fits}
 use Rattle.phase.specs.Lookup.{indexOf, fracQ15, betweenQ15, cosQ15}
 
 -- z lies between a and b, whichever is the lower
@@ -29,17 +30,17 @@ pub record Neighbours (a b : ℤ) (k : ℕ) : Type 0 where
   pub part : k < 2 ^ 15
 
 -- the part of a difference d, rounded, lies between 0 and d
-part-of : (a b d : ℤ) (k : ℕ) → k ≤ 32768 → b -ℤ a ≡ d → Between a b (a +ℤ shrZ (d *ℤ pos k +ℤ pos 16384) 32768)
+part-of : (a b d : ℤ) (k : ℕ) → k ≤ 2 ^ 15 → b -ℤ a ≡ d → Between a b (a +ℤ shrZ (d *ℤ pos k +ℤ pos (2 ^ 14)) (2 ^ 15))
 part-of a b (pos n) k l e =
-    let q = pos ((n * k + 16384) / 32768) in
+    let q = pos ((n * k + 2 ^ 14) / 2 ^ 15) in
     let s = add-law a q in
     inl (order-in a (a +ℤ q) (omega arith), order-in (a +ℤ q) b (omega (arith, sub-law' b a, ap up e, ap dn e, mul-le-mul-left n l)))
 part-of a b (negsuc n) k l e =
     let p = negℤ (pos (suc n * k)) in
-    let q = shrZ (p +ℤ pos 16384) 32768 in
+    let q = shrZ (p +ℤ pos (2 ^ 14)) (2 ^ 15) in
     let s = add-law a q in
-    let r = shr-law (p +ℤ pos 16384) 32768 (lit< tt) in
-    let t = add-law p (pos 16384) in
+    let r = shr-law (p +ℤ pos (2 ^ 14)) (2 ^ 15) (lit< tt) in
+    let t = add-law p (pos (2 ^ 14)) in
     let u = up-neg (pos (suc n * k)) in
     let d = dn-neg (pos (suc n * k)) in
     inr (order-in b (a +ℤ q) (omega (arith, sub-law' b a, ap up e, ap dn e, mul-le-mul-left (suc n) l)), order-in (a +ℤ q) a (omega arith))
@@ -59,7 +60,7 @@ module _ {a b : ℤ} {k : ℕ} (n : Neighbours a b k) where
   product-le = let l = n .part in mul-le (b -ℤ a) (pos k) 65535 32767 difference-le (omega arith)
 
   -- the shift does not stop at the largest i64
-  pub shift-is : roundShiftOf product 15 ≡ shrZ (product +ℤ pos 16384) 32768
+  pub shift-is : roundShiftOf product 15 ≡ shrZ (product +ℤ pos (2 ^ 14)) (2 ^ 15)
   shift-is = let l = product-le in round-is product 15 (λ e. omega arith) (lit< tt) (omega (arith, abs-out product))
 
   pub between : Between a b (a +ℤ roundShiftOf ((b -ℤ a) *ℤ pos k) 15)
@@ -116,10 +117,10 @@ module _ (w : Width) (room : T (leb 31 (hbits w))) where
     pub product-held : of (of (entry b -ℤ entry a) *ℤ toZ w k) ≡ product n
     product-held = toZ-ofZ product-fits ∙ product-is
 
-    pub half-fits : SFits w (of (of (entry b -ℤ entry a) *ℤ toZ w k) +ℤ pos 16384)
-    half-fits = let l = product-le n in rw product-held (bounded (product n +ℤ pos 16384) (omega (arith, add-le (product n) (pos 16384))))
+    pub half-fits : SFits w (of (of (entry b -ℤ entry a) *ℤ toZ w k) +ℤ pos (2 ^ 14))
+    half-fits = let l = product-le n in rw product-held (bounded (product n +ℤ pos (2 ^ 14)) (omega (arith, add-le (product n) (pos (2 ^ 14)))))
 
-    pub shift-held : shrZ (of (of (of (entry b -ℤ entry a) *ℤ toZ w k) +ℤ pos 16384)) 32768 ≡ roundShiftOf (product n) 15
+    pub shift-held : shrZ (of (of (of (entry b -ℤ entry a) *ℤ toZ w k) +ℤ pos (2 ^ 14))) (2 ^ 15) ≡ roundShiftOf (product n) 15
     shift-held = rw (toZ-ofZ half-fits, product-held) (sym (shift-is n))
 
     -- q is the shifted product
@@ -147,10 +148,19 @@ module _ (t : List ℤ) (p : ℕ) where
   pub found : mag entry-at < 2 ^ 15 → mag entry-after < 2 ^ 15 → Found
   found f g = record { first = record { sfits = f }; second = record { sfits = g }; part = mod-lt (p / 2 ^ 5) (lit< tt) }
 
-  pub cos-at : indexOf p + 1 < length t → betweenQ15 entry-at entry-after (fracQ15 p) ≡ cosQ15 t p
+  pub cosQ15-at : indexOf p + 1 < length t → betweenQ15 entry-at entry-after (fracQ15 p) ≡ cosQ15 t p
   unfolding cosQ15
-  cos-at h = rw (lt-ltb (indexOf p + 1) (length t) h)
+  cosQ15-at h = rw (lt-ltb (indexOf p + 1) (length t) h)
 
-  pub cos-lacks : length t ≤ indexOf p + 1 → pos 0 ≡ cosQ15 t p
+  pub cosQ15-lacks : length t ≤ indexOf p + 1 → pos 0 ≡ cosQ15 t p
   unfolding cosQ15
-  cos-lacks h = rw (le-ltb (indexOf p + 1) (length t) h)
+  cosQ15-lacks h = rw (le-ltb (indexOf p + 1) (length t) h)
+
+  -- the lookup is an i16, whatever the table holds
+  pub cosQ15-fits : SFits w16 (cosQ15 t p)
+  unfolding cosQ15 betweenQ15
+  cosQ15-fits = by (ltb (indexOf p + 1) (length t))
+    where
+      by : (x : Bool) → SFits w16 (cond x (betweenQ15 entry-at entry-after (fracQ15 p)) (pos 0))
+      by true = sat-fits _
+      by false = record { sfits = lit< tt }

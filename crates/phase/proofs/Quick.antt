@@ -1,6 +1,6 @@
 -- The floor modulo 2^32 by one sum: v + 1.5 times 2^52 is rounded to a whole number, whose low digits are those of the nearest one to v, and one less where that lies above v. Assumes nothing.
 use Prim.Native.Nat.{ℕ, zero, suc, _+_, _-_, _*_, _/_, _%_, _^_, _≤_, _<_}
-use mathlib.Core.Path.{_≡_, refl, sym, ap, _∙_, subst}
+use mathlib.Core.Path.{_≡_, refl, sym, ap, _∙_}
 use mathlib.Core.Bool.{Bool, true, false, not, _&&_, cond, false≢true}
 use native.Mathlib.Omega.{arith}
 use native.Mathlib.Nat.{le-of-lt, add-mul, mul-one, lt-of-mul-lt-mul-right}
@@ -25,7 +25,7 @@ use Rattle.phase.specs.Correction.{correctionOf, limit, quickOf}
 
 -- 1.5 times 2^52, which is 0 modulo 2^32
 abbrev M : ℕ
-M = 6755399441055744
+M = 3 * 2 ^ 51
 
 abbrev pub magic : Float
 magic = fin false 3 (pos 51)
@@ -45,20 +45,20 @@ module _ (a d q : ℕ) (small : a < M * d) where
   less-by false false e = let g = apart d q M (ltb-false q M e) in tests a ((q - M) * d) (M * d + a) (q * d) (λ h. omega arith) (λ h. omega arith)
 
 -- the floor of M ± a/d is M ± the floor of ±a/d, whose size is n
-module _ (a d n : ℕ) (small : a < 2251799813685248 * d) where
-  under : (s : Bool) → Greatest s a d n → n * d < 2251799813685249 * d
+module _ (a d n : ℕ) (small : a < 2 ^ 51 * d) where
+  under : (s : Bool) → Greatest s a d n → n * d < (2 ^ 51 + 1) * d
   under true g = omega arith
   under false g = omega arith
 
-  floor-le : (s : Bool) → Greatest s a d n → n ≤ 2251799813685248
-  floor-le s g = let l : n < 2251799813685249 = lt-of-mul-lt-mul-right d (under s g) in omega arith
+  floor-le : (s : Bool) → Greatest s a d n → n ≤ 2 ^ 51
+  floor-le s g = let l : n < 2 ^ 51 + 1 = lt-of-mul-lt-mul-right d (under s g) in omega arith
 
   on : (s : Bool) → Greatest s a d n → Greatest false (shifted s (M * d) a) d (shifted s M n)
   on true g = let l = floor-le true g in let e = apart d M n (omega arith) in omega arith
   on false g = let e = add-mul M n d in omega arith
 
 -- M adds nothing modulo 2^32
-low-of : (s : Bool) (n : ℕ) → n ≤ 2251799813685248 → shifted s M n % 4294967296 ≡ modZ (cond s (negℤ (pos n)) (pos n)) 4294967296
+low-of : (s : Bool) (n : ℕ) → n ≤ 2 ^ 51 → shifted s M n % 2 ^ 32 ≡ modZ (cond s (negℤ (pos n)) (pos n)) (2 ^ 32)
 low-of false n h = omega arith
 low-of true zero h = refl
 low-of true (suc n) h = omega arith
@@ -69,13 +69,13 @@ pub record Ranged (v : Float) : Type 0 where
   pub a : ℕ
   pub d : ℕ
   pub some : 0 < d
-  pub small : a < 2251799813685248 * d
+  pub small : a < 2 ^ 51 * d
   pub value : HasValue v s a d
 
-size-lt : (s : Bool) (m : ℕ) (e : ℤ) → lt (limit true) (fin s m e) ≡ true → lt (fin s m e) (limit false) ≡ true → m * up e < 2251799813685248 * down e
+size-lt : (s : Bool) (m : ℕ) (e : ℤ) → lt (limit true) (fin s m e) ≡ true → lt (fin s m e) (limit false) ≡ true → m * up e < 2 ^ 51 * down e
 unfolding lt
-size-lt true m e p q = omega (arith, mul-one (m * up e), ltb-true (m * up e * 1) (2251799813685248 * down e) p)
-size-lt false m e p q = omega (arith, mul-one (m * up e), ltb-true (m * up e * 1) (2251799813685248 * down e) q)
+size-lt true m e p q = omega (arith, mul-one (m * up e), ltb-true (m * up e * 1) (2 ^ 51 * down e) p)
+size-lt false m e p q = omega (arith, mul-one (m * up e), ltb-true (m * up e * 1) (2 ^ 51 * down e) q)
 
 pub ranged : (v : Float) → lt (limit true) v ≡ true → lt v (limit false) ≡ true → Ranged v
 ranged nan p q = absurd (false≢true (unfold lt in p))
@@ -102,10 +102,10 @@ module _ {v : Float} (k : Ranged v) where
   abbrev sum : Float
   sum = add binary64 v magic
 
-  inside : (4503599627370496 * d ≤ N) × (N < 9007199254740992 * d)
+  inside : (2 ^ 52 * d ≤ N) × (N < 2 ^ 53 * d)
   inside = by s
     where
-      by : (s : Bool) → (4503599627370496 * d ≤ shifted s (M * d) a) × (shifted s (M * d) a < 9007199254740992 * d)
+      by : (s : Bool) → (2 ^ 52 * d ≤ shifted s (M * d) a) × (shifted s (M * d) a < 2 ^ 53 * d)
       by true = omega arith
       by false = omega arith
 
@@ -115,7 +115,7 @@ module _ {v : Float} (k : Ranged v) where
   sum-whole : HasValue sum false q 1
   sum-whole = rw sum-is (integer-value binary64 false N d (k .some) (inside .0) (inside .1))
 
-  sum-bits : toBits binary64 sum ≡ 1074 * 4503599627370496 + q
+  sum-bits : toBits binary64 sum ≡ 1074 * 2 ^ 52 + q
   sum-bits = rw sum-is (integer-bits binary64 false N d (k .some) (inside .0) (inside .1))
 
   pub sum-real : T (not (isNan sum))
@@ -123,8 +123,8 @@ module _ {v : Float} (k : Ranged v) where
 
   back : HasValue (sub binary64 sum magic) (ltb q M) (gap q M) 1
   back =
-      let l = closest-ge N d 4503599627370496 (k .some) (inside .0) in
-      let h = closest-le N d 9007199254740992 (k .some) (inside .1) in
+      let l = closest-ge N d (2 ^ 52) (k .some) (inside .0) in
+      let h = closest-le N d (2 ^ 53) (k .some) (inside .1) in
       sub-whole binary64 sum magic q M (omega arith) (omega arith) sum-whole (refl, refl)
 
   rose : lt v (sub binary64 sum magic) ≡ ltb N (q * d)
@@ -141,14 +141,14 @@ module _ {v : Float} (k : Ranged v) where
       let l = floor-le a d n (k .small) s greatest in
       ap (toSigned 63) (whole-at downward v s a d (k .some) (k .value)) ∙ toSigned-whole 63 (round binary64 s n 1) s n (omega arith) (exact-at binary64 s n (omega arith))
 
-  pub low-is : (r : ℕ) → r < 4294967296 → (r + boolByte (lt v (sub binary64 sum magic))) % 4294967296 ≡ toBits binary64 sum % 4294967296 → r ≡ modZ (toSigned 63 (floorOf v)) 4294967296
+  pub low-is : (r : ℕ) → r < 2 ^ 32 → (r + boolByte (lt v (sub binary64 sum magic))) % 2 ^ 32 ≡ toBits binary64 sum % 2 ^ 32 → r ≡ modZ (toSigned 63 (floorOf v)) (2 ^ 32)
   low-is r h e =
       less (lt v (sub binary64 sum magic)) (toBits binary64 sum) q (N / d) (rw rose (closest-rose N d (k .some))) sum-bits e
-      ∙ ap (λ (z : ℕ). z % 4294967296) (greatest-div N d (shifted s M n) (on a d n (k .small) s greatest))
+      ∙ ap (λ (z : ℕ). z % 2 ^ 32) (greatest-div N d (shifted s M n) (on a d n (k .small) s greatest))
       ∙ low-of s n (floor-le a d n (k .small) s greatest)
-      ∙ ap (λ (z : ℤ). modZ z 4294967296) (sym floor-is)
+      ∙ ap (λ (z : ℤ). modZ z (2 ^ 32)) (sym floor-is)
     where
-      less : (t : Bool) (b q w : ℕ) → q ≡ w + cond t 1 0 → b ≡ 1074 * 4503599627370496 + q → (r + boolByte t) % 4294967296 ≡ b % 4294967296 → r ≡ w % 4294967296
+      less : (t : Bool) (b q w : ℕ) → q ≡ w + cond t 1 0 → b ≡ 1074 * 2 ^ 52 + q → (r + boolByte t) % 2 ^ 32 ≡ b % 2 ^ 32 → r ≡ w % 2 ^ 32
       less true b q w x y z = omega arith
       less false b q w x y z = omega arith
 

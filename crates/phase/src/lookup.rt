@@ -54,14 +54,20 @@ pub fn interp_f32_pair(table: &[f32], p: u32) -> Pair
     let i = (p / 1048576) as usize;
     let j = (i + 3072) % 4096;
     if table.len() < 4097 {
-        return Pair { c: cos_f32(table, p), s: cos_f32(table, sine_at(p)) };
+        return Pair {
+            c: cos_f32(table, p),
+            s: cos_f32(table, sine_at(p)),
+        };
     }
     let f = ((p % 1048576) as f32) * 9.5367431640625e-7;
     let a = table[i];
     let b = table[i + 1];
     let sa = table[j];
     let sb = table[j + 1];
-    Pair { c: a + (b - a) * f, s: sa + (sb - sa) * f }
+    Pair {
+        c: a + (b - a) * f,
+        s: sa + (sb - sa) * f,
+    }
 }
 
 // The cosine of a phase in Q15, in 64 bits.

@@ -1,7 +1,12 @@
 // The numerically controlled oscillator of kernels/mix.rs.
 ghost use mathlib.Core.Path.{_≡_};
 ghost use Rattle.phase.specs.Oscillator.{
-    incrementOf, newBy, setBy, phaseSet, advanceOf, turnOf
+  incrementOf,
+  newBy,
+  setBy,
+  phaseSet,
+  advanceOf,
+  turnOf,
 };
 
 // The phase before the next sample, and what each sample adds to it.

@@ -1,7 +1,7 @@
 use borrow.Author.Needs.{needs}
 use mathlib.Core.Path.{refl}
 use lib.Ieee.{ofBits}
-use Rattle.phase.proofs.Cosine.{frac-cast, cos-at, cos-lacks}
+use Rattle.phase.proofs.Cosine.{frac-cast, cosF32-at, cosF32-lacks}
 use Rattle.phase.proofs.lookup.cos_f32.Statement.{statement}
 use Rattle.phase.proofs.lookup.cos_f32.Tie as tie
 
@@ -13,7 +13,7 @@ add-if1 c = search needs
 
 returns : tie.Need-returns
 unfolding ofBits
-returns c = let a = c .before .args in cos-lacks (a .table .now) (a .p) refl (c .if1 .taken)
+returns c = let a = c .before .args in cosF32-lacks (a .table .now) (a .p) refl (c .if1 .taken)
 
 int-to-float-f : tie.Need-int-to-float-f
 int-to-float-f c = frac-cast (c .before .before .args .p)
@@ -34,7 +34,7 @@ shared-slice-read-b : tie.Need-shared-slice-read-b
 shared-slice-read-b c = search needs
 
 returns-2 : tie.Need-returns-2
-returns-2 c = let e = c .before .before .before in cos-at (e .before .args .table .now) (e .before .args .p) refl refl (e .if1 .left)
+returns-2 c = let e = c .before .before .before in cosF32-at (e .before .args .table .now) (e .before .args .p) refl refl (e .if1 .left)
 
 pub cos-f32-spec : {M : Type 1} → statement M
 cos-f32-spec =

@@ -4,7 +4,7 @@ use mir.Syntax.{w16, w64}
 use Rattle.rounding.proofs.Lin.{back}
 use Rattle.numbers.specs.Integers.{roundShiftOf}
 use Rattle.phase.specs.Lookup.{betweenQ15}
-use Rattle.phase.proofs.Between.{entry-at, entry-after, Found, found, product, entry-fits, difference-fits, product-fits, product-held, result-fits, result-held, cos-at, cos-lacks}
+use Rattle.phase.proofs.Between.{entry-at, entry-after, Found, found, product, entry-fits, difference-fits, product-fits, product-held, result-fits, result-held, cosQ15-at, cosQ15-lacks}
 use Rattle.phase.proofs.lookup.cos_q15.Statement.{statement}
 use Rattle.phase.proofs.lookup.cos_q15.Tie as tie
 
@@ -18,7 +18,7 @@ add-if1 : tie.Need-add-if1
 add-if1 c = search needs
 
 returns : tie.Need-returns
-returns c = let a = c .before .args in cos-lacks (a .table .now) (a .p) (c .if1 .taken)
+returns c = let a = c .before .args in cosQ15-lacks (a .table .now) (a .p) (c .if1 .taken)
 
 cast-f : tie.Need-cast-f
 cast-f c = search needs
@@ -69,7 +69,7 @@ returns-2 c =
     let e = r .before .before .before in
     back w16 (c .sat16 .result) (c .sat16 .ok)
     ∙ c .sat16 .ensures
-    ∙ rw (result-held w64 tt (both (r .before)) (shifted r)) (cos-at (e .before .args .table .now) (e .before .args .p) (e .if1 .left))
+    ∙ rw (result-held w64 tt (both (r .before)) (shifted r)) (cosQ15-at (e .before .args .table .now) (e .before .args .p) (e .if1 .left))
 
 pub cos-q15-spec : {M : Type 1} → statement M
 cos-q15-spec =

@@ -2,7 +2,7 @@ use native.Mathlib.Omega.{arith}
 use borrow.Author.Needs.{needs}
 use mathlib.Core.Path.{refl}
 use Rattle.phase.specs.Lookup.{sineAt}
-use Rattle.phase.proofs.Cosine.{frac-cast, cos-at, sine-index, sine-frac}
+use Rattle.phase.proofs.Cosine.{frac-cast, cosF32-at, sine-index, sine-frac}
 use Rattle.phase.proofs.lookup.interp_f32_pair.Statement.{statement}
 use Rattle.phase.proofs.lookup.interp_f32_pair.Tie as tie
 
@@ -62,7 +62,7 @@ returns-2 c =
     let s = c .before .before .before .before .before .before .before in
     let t = s .args .table .now in
     let p = s .args .p in
-    rw (cos-at t p refl refl (omega arith), cos-at t (sineAt 1 p) (sine-index p (omega arith)) (sine-frac p (omega arith)) (omega arith))
+    rw (cosF32-at t p refl refl (omega arith), cosF32-at t (sineAt 1 p) (sine-index p (omega arith)) (sine-frac p (omega arith)) (omega arith))
 
 pub interp-f32-pair-spec : {M : Type 1} → statement M
 interp-f32-pair-spec =

@@ -1,7 +1,7 @@
 use mathlib.Core.Path.{sym, _∙_}
 use borrow.Author.Needs.{needs}
 use mir.Syntax.{w32}
-use Rattle.phase.proofs.Between.{entry-at, entry-after, Found, found, between-is, entry-fits, difference-fits, product-fits, half-fits, shift-held, result-fits, result-held, cos-at, cos-lacks}
+use Rattle.phase.proofs.Between.{entry-at, entry-after, Found, found, between-is, entry-fits, difference-fits, product-fits, half-fits, shift-held, result-fits, result-held, cosQ15-at, cosQ15-lacks}
 use Rattle.phase.proofs.lookup.interp_q15.Statement.{statement}
 use Rattle.phase.proofs.lookup.interp_q15.Tie as tie
 
@@ -15,7 +15,7 @@ add-if1 : tie.Need-add-if1
 add-if1 c = search needs
 
 returns : tie.Need-returns
-returns c = let a = c .before .args in cos-lacks (a .table .now) (a .p) (c .if1 .taken)
+returns c = let a = c .before .args in cosQ15-lacks (a .table .now) (a .p) (c .if1 .taken)
 
 cast-f : tie.Need-cast-f
 cast-f c = search needs
@@ -56,7 +56,7 @@ add-result-2 c = result-fits w32 tt (both c) (shift-held w32 tt (both c))
 returns-2 : tie.Need-returns-2
 returns-2 c =
     let e = c .before .before in
-    result-held w32 tt (both c) (shift-held w32 tt (both c)) ∙ sym (between-is (both c)) ∙ cos-at (e .before .args .table .now) (e .before .args .p) (e .if1 .left)
+    result-held w32 tt (both c) (shift-held w32 tt (both c)) ∙ sym (between-is (both c)) ∙ cosQ15-at (e .before .args .table .now) (e .before .args .p) (e .if1 .left)
 
 pub interp-q15-spec : {M : Type 1} → statement M
 interp-q15-spec =

@@ -2,8 +2,7 @@ use borrow.Author.Needs.{needs}
 use borrow.Author.Tests.{not-true, not-false}
 use mathlib.Core.Path.{_≡_, refl, sym, ap, _∙_}
 use mathlib.Core.Bool.{Bool, true, _&&_, cond}
-use lib.IntN.{pos}
-use lib.Ieee.{Float, fin, ofBits, binary64, div, lt}
+use lib.Ieee.{Float, ofBits, binary64, div, lt}
 use lib.Ieee.Scale.{finite}
 use Rattle.phase.specs.declared.oscillator.Increment.the-variants.{Turn, Refused}
 use Rattle.phase.specs.Oscillator.{incrementOf, turnOf}

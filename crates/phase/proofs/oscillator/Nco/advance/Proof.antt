@@ -1,4 +1,4 @@
-use Prim.Native.Nat.{ℕ, _+_, _*_, _/_, _%_, _≤_, _<_}
+use Prim.Native.Nat.{ℕ, _+_, _*_, _/_, _%_, _^_, _≤_, _<_}
 use mathlib.Core.Path.{_≡_, sym, ap, _∙_}
 use native.Mathlib.Omega.{arith}
 use native.Mathlib.Nat.{add-mul, mul-right-comm, mul-le-mul, div-add-mod'}
@@ -7,7 +7,7 @@ use Rattle.phase.proofs.oscillator.Nco.advance.Statement.{statement}
 use Rattle.phase.proofs.oscillator.Nco.advance.Tie as tie
 
 abbrev m : ℕ
-m = 4294967296
+m = 2 ^ 32
 
 small : (n inc : ℕ) → inc < m → n % m * inc < m * m
 small n inc h =
