@@ -30,3 +30,9 @@ length-is n wanted cause f h = go (eqb n wanted) refl h
     go : (t : Bool) → eqb n wanted ≡ t → accepts (cond t accepted cause) ≡ true → n ≡ wanted
     go true e h = eqb-true n wanted e
     go false e h = absurd (false≢true (rw f at h))
+
+-- accepted by an earlier answer, and then by a length whose cause is k
+pub and-length : (s : Said) (k n wanted : ℕ) → accepts (firstOf s (lengthRule n wanted (lengths k wanted n))) ≡ true → (accepts s ≡ true) × (n ≡ wanted)
+and-length s k n wanted h =
+    let x = both s (lengthRule n wanted (lengths k wanted n)) h in
+    (x .0, length-is n wanted (lengths k wanted n) refl (x .1))

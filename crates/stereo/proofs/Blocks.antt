@@ -1,20 +1,20 @@
 -- The matrix block over the format: what it leaves when it is turned back and when it is carried out. Assumes nothing.
 use Prim.Native.Nat.{ℕ}
-use mathlib.Core.Path.{_≡_, refl, sym, ap, _∙_}
-use mathlib.Core.Bool.{Bool, true, false}
+use mathlib.Core.Path.{_≡_, refl}
+use mathlib.Core.Bool.{true, false}
 use mathlib.Core.List.{List}
 use lib.ListN.{length, getD}
-use Rattle.stereo.specs.Answer.{Said, accepts, firstOf, inputRule, outputRule}
-use Rattle.stereo.specs.Samples.{samples}
-use Rattle.stereo.specs.Matrix.{Matrixed, matrixSays, matrixBy}
-use Rattle.stereo.proofs.Lengths.{both, length-is}
+use Rattle.blocks.specs.Answer.{Said, accepts, firstOf, inputRule, outputRule}
+use Rattle.blocks.specs.Samples.{samples}
+use Rattle.stereo.specs.Matrix.{matrixSays, matrixBy}
+use Rattle.blocks.proofs.Lengths.{length-is, and-length}
 
 -- an accepted call has four equal lengths
 pub lengths-equal : (n d l r : ℕ) → accepts (matrixSays n d l r) ≡ true → (d ≡ n) × (l ≡ n) × (r ≡ n)
 lengths-equal n d l r h =
-    let x = both (firstOf (inputRule n d) (outputRule n l)) (outputRule n r) h in
-    let y = both (inputRule n d) (outputRule n l) (x .0) in
-    (length-is d n _ refl (y .0), length-is l n _ refl (y .1), length-is r n _ refl (x .1))
+    let x = and-length (firstOf (inputRule n d) (outputRule n l)) 11 r n h in
+    let y = and-length (inputRule n d) 11 l n (x .0) in
+    (length-is d n _ refl (y .0), y .1, x .1)
 
 module _ {A : Type 0} (l r : A → A → A) (z : A) (sum difference left right : List A) (s : Said)
     (e : s ≡ matrixSays (length sum) (length difference) (length left) (length right)) where

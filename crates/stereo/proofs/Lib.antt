@@ -1,4 +1,4 @@
-pub mod Samples
-pub mod Lengths
 pub mod Twice
 pub mod Blocks
+pub mod Phases
+pub mod Encoders

@@ -7,9 +7,9 @@ use lib.IntN.{pos, negsuc}
 use lib.Ieee.{Float, nan, fin, binary32, binary64, add, sub, mul, div, le}
 use Rattle.phase.specs.Lookup.{sineAt, cosF32}
 use Rattle.phase.specs.Oscillator.{goodRate, turnOf, phaseSet}
-use Rattle.stereo.specs.Answer.{Said, firstOf, tableRule, inputRule, outputRule, kept}
-use Rattle.stereo.specs.Samples.{samples}
-use Rattle.stereo.specs.Verdict.{inRange}
+use Rattle.blocks.specs.Answer.{Said, firstOf, tableRule, inputRule, outputRule, kept}
+use Rattle.blocks.specs.Samples.{samples}
+use Rattle.numbers.specs.Floats.{inRange}
 use Rattle.stereo.specs.declared.encode.StereoEncode.{StereoEncode}
 use Rattle.stereo.specs.declared.encode.NewEncode.{NewEncode}
 use Rattle.stereo.specs.declared.encode.NewEncode.the-variants as new

@@ -1,5 +1,3 @@
-pub mod Answer
-pub mod Samples
 pub mod Matrix
 pub mod Verdict
 pub mod Encode

@@ -6,8 +6,8 @@ use lib.ListN.{length, getD}
 use lib.IntN.{ℤ, pos, _+ℤ_, _-ℤ_, _*ℤ_}
 use lib.Ieee.{Float, nan, binary32, add, sub}
 use Rattle.numbers.specs.Integers.{sat16Of}
-use Rattle.stereo.specs.Answer.{Said, firstOf, inputRule, outputRule, kept}
-use Rattle.stereo.specs.Samples.{samples}
+use Rattle.blocks.specs.Answer.{Said, firstOf, inputRule, outputRule, kept}
+use Rattle.blocks.specs.Samples.{samples}
 
 -- f32: d2 = d + d, then s + d2 and s - d2, each rounded once
 abbrev pub leftF32 : Float → Float → Float

@@ -1,17 +1,30 @@
 // The stereo multiplex encoder (ITU-R BS.450): the sum, the difference on the subcarrier at twice
 // the pilot's phase, and the pilot.
-use crate::answer::{is_accepted, table_rule, then_input, then_output, Answer};
-use phase::lookup::{cos_f32, sine_at, sine_at_twice};
+use blocks::answer::Answer;
+use blocks::answer::is_accepted;
+use blocks::answer::table_rule;
+use blocks::answer::then_input;
+use blocks::answer::then_output;
 use numbers::float::is_finite_f64;
-use phase::oscillator::{turn, Nco};
+use phase::lookup::cos_f32;
+use phase::lookup::sine_at;
+use phase::lookup::sine_at_twice;
+use phase::oscillator::Nco;
+use phase::oscillator::turn;
 ghost use mathlib.Core.Path.{_≡_};
 ghost use Prim.Native.Nat.{_+_, _*_, _%_, _^_};
 ghost use lib.ListN.{length, getD};
 ghost use lib.Ieee.{nan};
-ghost use Rattle.stereo.specs.Answer.{says};
-ghost use Rattle.stereo.specs.Samples.{samples};
+ghost use Rattle.blocks.specs.Answer.{says};
+ghost use Rattle.blocks.specs.Samples.{samples};
 ghost use Rattle.stereo.specs.Encode.{
-    goodLevel, newEncodeOf, setPilotOf, encodeAt, multiplexOf, phaseAt, encodeOf
+  goodLevel,
+  newEncodeOf,
+  setPilotOf,
+  encodeAt,
+  multiplexOf,
+  phaseAt,
+  encodeOf,
 };
 
 // The pilot's oscillator, the gain of the sum and difference signals, and the pilot's amplitude.
@@ -159,7 +172,13 @@ impl StereoEncode {
     }
 
     // A block of left and right to the multiplex.
-    pub fn encode(self, table: &[f32], left: &[f32], right: &[f32], output: &mut [f32]) -> EncodeReply
+    pub fn encode(
+        self,
+        table: &[f32],
+        left: &[f32],
+        right: &[f32],
+        output: &mut [f32],
+    ) -> EncodeReply
         ensures { λ r. ⌜ record { said = says (r .answer); output = now (output .exit); encoder = r .encoder } ≡ encodeOf self (now (table .entry)) (now (left .entry)) (now (right .entry)) (now (output .entry)) ⌝ }
     {
         let n = left.len();

@@ -1,5 +1,4 @@
 // The stereo matrix, the multiplex encoders and the on-air verdict.
-pub mod answer;
 pub mod encode;
 pub mod matrix;
 pub mod rds;

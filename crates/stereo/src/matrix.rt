@@ -1,14 +1,23 @@
 // Sum and difference to left and right (ITU-R BS.450). The difference is taken twice, since the
 // demodulator halves it.
-use crate::answer::{is_accepted, then_input, then_output, Answer};
+use blocks::answer::Answer;
+use blocks::answer::is_accepted;
+use blocks::answer::then_input;
+use blocks::answer::then_output;
 ghost use mathlib.Core.Path.{_≡_};
 ghost use lib.ListN.{length, getD};
 ghost use lib.IntN.{pos};
 ghost use lib.Ieee.{nan};
-ghost use Rattle.stereo.specs.Answer.{says};
-ghost use Rattle.stereo.specs.Samples.{samples};
+ghost use Rattle.blocks.specs.Answer.{says};
+ghost use Rattle.blocks.specs.Samples.{samples};
 ghost use Rattle.stereo.specs.Matrix.{
-    matrixSays, leftF32, rightF32, leftQ15, rightQ15, matrixF32, matrixQ15
+  matrixSays,
+  leftF32,
+  rightF32,
+  leftQ15,
+  rightQ15,
+  matrixF32,
+  matrixQ15,
 };
 
 // The answer by the lengths.

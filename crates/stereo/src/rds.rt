@@ -1,14 +1,31 @@
 // The multiplex encoder with RDS on the subcarrier at three times the pilot's phase.
-use crate::answer::{is_accepted, table_rule, then_input, then_output, Answer};
-use crate::encode::{good_level, multiplex, NewEncode, SetEncode, StereoEncode};
-use phase::lookup::{cos_f32, sine_at_thrice};
+use blocks::answer::Answer;
+use blocks::answer::is_accepted;
+use blocks::answer::table_rule;
+use blocks::answer::then_input;
+use blocks::answer::then_output;
+use crate::encode::NewEncode;
+use crate::encode::SetEncode;
+use crate::encode::StereoEncode;
+use crate::encode::good_level;
+use crate::encode::multiplex;
+use phase::lookup::cos_f32;
+use phase::lookup::sine_at_thrice;
 ghost use mathlib.Core.Path.{_≡_};
 ghost use lib.ListN.{length, getD};
 ghost use lib.Ieee.{nan};
-ghost use Rattle.stereo.specs.Answer.{says};
-ghost use Rattle.stereo.specs.Samples.{samples};
+ghost use Rattle.blocks.specs.Answer.{says};
+ghost use Rattle.blocks.specs.Samples.{samples};
 ghost use Rattle.stereo.specs.Encode.{
-    newEncodeOf, withRds, setPilotOf, inRds, setRdsOf, rdsAt, multiplexRdsOf, phaseAt, encodeRdsOf
+  newEncodeOf,
+  withRds,
+  setPilotOf,
+  inRds,
+  setRdsOf,
+  rdsAt,
+  multiplexRdsOf,
+  phaseAt,
+  encodeRdsOf,
 };
 
 // The stereo part, and the level of RDS.
@@ -36,7 +53,16 @@ pub struct EncodeRdsReply {
 }
 
 // One multiplex sample with RDS, which is added last.
-pub fn multiplex_rds(table: &[f32], main: f32, pilot: f32, level: f32, p: u32, left: f32, right: f32, b: f32) -> f32
+pub fn multiplex_rds(
+    table: &[f32],
+    main: f32,
+    pilot: f32,
+    level: f32,
+    p: u32,
+    left: f32,
+    right: f32,
+    b: f32,
+) -> f32
     ensures { λ r. ⌜ r ≡ multiplexRdsOf (now (table .entry)) main pilot level p left right b ⌝ }
 {
     let m = multiplex(table, main, pilot, p, left, right);
@@ -45,7 +71,14 @@ pub fn multiplex_rds(table: &[f32], main: f32, pilot: f32, level: f32, p: u32, l
 }
 
 // The samples in order; the next phase comes back.
-fn run(e: StereoEncodeRds, table: &[f32], left: &[f32], right: &[f32], rds: &[f32], output: &mut [f32]) -> u32
+fn run(
+    e: StereoEncodeRds,
+    table: &[f32],
+    left: &[f32],
+    right: &[f32],
+    rds: &[f32],
+    output: &mut [f32],
+) -> u32
     requires { ⌜ (length (now right) ≡ length (now left)) × (length (now rds) ≡ length (now left)) × (length (now output) ≡ length (now left)) ⌝ }
     ensures { λ r. ⌜ r ≡ phaseAt (e .enc) (length (now (left .entry))) ⌝ ∗ ⌜ now (output .exit) ≡ samples (length (now (left .entry))) (λ i. multiplexRdsOf (now (table .entry)) (e .enc .main) (e .enc .pilot) (e .rds) (phaseAt (e .enc) i) (getD (now (left .entry)) i nan) (getD (now (right .entry)) i nan) (getD (now (rds .entry)) i nan)) ⌝ }
 {
@@ -152,7 +185,14 @@ impl StereoEncodeRds {
     }
 
     // A block of left, right and the RDS baseband to the multiplex.
-    pub fn encode(self, table: &[f32], left: &[f32], right: &[f32], rds: &[f32], output: &mut [f32]) -> EncodeRdsReply
+    pub fn encode(
+        self,
+        table: &[f32],
+        left: &[f32],
+        right: &[f32],
+        rds: &[f32],
+        output: &mut [f32],
+    ) -> EncodeRdsReply
         ensures { λ r. ⌜ record { said = says (r .answer); output = now (output .exit); encoder = r .encoder } ≡ encodeRdsOf self (now (table .entry)) (now (left .entry)) (now (right .entry)) (now (rds .entry)) (now (output .entry)) ⌝ }
     {
         let n = left.len();

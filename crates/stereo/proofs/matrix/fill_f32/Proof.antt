@@ -5,7 +5,7 @@ use native.Mathlib.Omega.{arith}
 use lib.ListN.{length, getD}
 use lib.Ieee.{nan}
 use Rattle.stereo.specs.Matrix.{leftF32, rightF32}
-use Rattle.stereo.proofs.Samples.{Filled, filled-start, filled-next, filled-end}
+use Rattle.blocks.proofs.Samples.{Filled, filled-start, filled-next, filled-end}
 use Rattle.stereo.proofs.matrix.fill_f32.Statement.{statement}
 use Rattle.stereo.proofs.matrix.fill_f32.Tie as tie
 

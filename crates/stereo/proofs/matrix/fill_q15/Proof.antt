@@ -7,7 +7,7 @@ use lib.IntN.{pos}
 use mir.Syntax.{w16}
 use Rattle.rounding.proofs.Lin.{back}
 use Rattle.stereo.specs.Matrix.{leftQ15, rightQ15}
-use Rattle.stereo.proofs.Samples.{Filled, filled-start, filled-next, filled-end}
+use Rattle.blocks.proofs.Samples.{Filled, filled-start, filled-next, filled-end}
 use Rattle.stereo.proofs.matrix.fill_q15.Statement.{statement}
 use Rattle.stereo.proofs.matrix.fill_q15.Tie as tie
 use Rattle.stereo.proofs.matrix.fill_q15.Reads as reads
