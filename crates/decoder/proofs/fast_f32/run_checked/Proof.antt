@@ -1,76 +1,65 @@
+use borrow.Author.Needs.{needs}
+use mathlib.Core.Path.{_≡_, refl, sym, _∙_}
+use Prim.Native.Nat.{_-_}
+use native.Mathlib.Omega.{arith}
+use lib.ListN.{length}
+use Rattle.decoder.specs.Formats.{f32}
+use Rattle.decoder.specs.Records.{pllF32}
+use Rattle.decoder.proofs.Loops.{Going, going-start, going-next, going-end, any-default}
 use Rattle.decoder.proofs.fast_f32.run_checked.Statement.{statement}
 use Rattle.decoder.proofs.fast_f32.run_checked.Tie as tie
-use Rattle.decoder.proofs.fast_f32.run_checked.Reads as reads
-use Rattle.decoder.proofs.fast_f32.run_checked.Lts as lts
-use Rattle.decoder.proofs.fast_f32.step_checked.Reads as step-checked-reads
 
 abbrev Inv-loop : tie.InvT-loop
-Inv-loop table mpx pilot sum₀ difference₀ st₀ i₀ sum difference st i = ?
+Inv-loop table mpx pilot sum₀ difference₀ st₀ i₀ sum difference st i = Going f32 table mpx pilot (pllF32 st₀) i sum difference (pllF32 st)
 
 abbrev μ-loop : tie.MeasureT-loop
-μ-loop table mpx pilot sum₀ difference₀ st₀ i₀ sum difference st i = ?
+μ-loop table mpx pilot sum₀ difference₀ st₀ i₀ sum difference st i = length mpx - i
 
--- src/fast_f32.rt:124:5
 loop-holds : tie.Need-loop-holds Inv-loop μ-loop
-loop-holds c = ?
+loop-holds c = going-start f32 _ _ _ _ (c .pre .1) (c .pre .2)
 
--- src/fast_f32.rt:125:17
 mul-x : tie.Need-mul-x Inv-loop μ-loop
-mul-x c = ?
+mul-x c = search needs
 
--- src/fast_f32.rt:125:17
 shared-slice-read-x : tie.Need-shared-slice-read-x Inv-loop μ-loop
-shared-slice-read-x c = ?
+shared-slice-read-x c = search needs
 
--- src/fast_f32.rt:126:17
 mul-p : tie.Need-mul-p Inv-loop μ-loop
-mul-p c = ?
+mul-p c = search needs
 
--- src/fast_f32.rt:126:17
 shared-slice-read-p : tie.Need-shared-slice-read-p Inv-loop μ-loop
-shared-slice-read-p c = ?
+shared-slice-read-p c = search needs
 
--- src/fast_f32.rt:127:13
 step-checked-requires : tie.Need-step-checked-requires Inv-loop μ-loop
-step-checked-requires c κs = ?
+step-checked-requires c κs = search needs
 
--- src/fast_f32.rt:128:9
 mul-sum : tie.Need-mul-sum Inv-loop μ-loop
-mul-sum c = ?
+mul-sum c = search needs
 
--- src/fast_f32.rt:128:9
 slice-write-sum : tie.Need-slice-write-sum Inv-loop μ-loop
-slice-write-sum c = ?
+slice-write-sum c = search needs
 
--- src/fast_f32.rt:129:9
 mul-difference : tie.Need-mul-difference Inv-loop μ-loop
-mul-difference c = ?
+mul-difference c = search needs
 
--- src/fast_f32.rt:129:9
 slice-write-difference : tie.Need-slice-write-difference Inv-loop μ-loop
-slice-write-difference c = ?
+slice-write-difference c = search needs
 
--- src/fast_f32.rt:131:9
 add-i : tie.Need-add-i Inv-loop μ-loop
-add-i c = ?
+add-i c = omega arith
 
--- src/fast_f32.rt:124:5
 loop-less : tie.Need-loop-less Inv-loop μ-loop
-loop-less c = ?
+loop-less c = omega arith
 
--- src/fast_f32.rt:124:5
 loop-again : tie.Need-loop-again Inv-loop μ-loop
 loop-again c = ?
 
--- src/fast_f32.rt:111:1
 same-length : tie.Need-same-length Inv-loop μ-loop
 same-length c = ?
 
--- src/fast_f32.rt:111:1
 same-length-2 : tie.Need-same-length-2 Inv-loop μ-loop
 same-length-2 c = ?
 
--- src/fast_f32.rt:111:1
 returns : tie.Need-returns Inv-loop μ-loop
 returns c = ?
 

@@ -51,6 +51,10 @@ good5 : (c : tie.Else5) → inRange nought (fin false 1 (pos 0)) (s4 (c .before 
 unfolding ofBits
 good5 c = not-false _ (c .if5 .left)
 
+bad5 : (c : tie.Then5) → inRange nought (fin false 1 (pos 0)) (s4 (c .before .before) .args .beta) ≡ false
+unfolding ofBits
+bad5 c = not-true _ (c .if5 .taken)
+
 is-positive-requires : tie.Need-is-positive-requires
 is-positive-requires c κs = search needs
 
@@ -90,7 +94,7 @@ returns-5 c =
     let d = c .before in
     let e = d .before .before in
     let f = e .before .before in
-    rw (good1 (f .before .before), good2 f, good3 e, good4 d, not-true _ (c .if5 .taken))
+    rw (good1 (f .before .before), good2 f, good3 e, good4 d, bad5 c)
 
 gains-of-requires : tie.Need-gains-of-requires
 gains-of-requires c κs = search needs

@@ -1,75 +1,71 @@
 use borrow.Author.Needs.{needs}
+use mathlib.Core.Path.{_≡_, _∙_}
+use Rattle.decoder.specs.Formats.{f32}
+use Rattle.decoder.specs.Records.{pllF32}
+use Rattle.decoder.proofs.Steps.{Parts, next-is, difference-is}
 use Rattle.decoder.proofs.plain_f32.step.Statement.{statement}
 use Rattle.decoder.proofs.plain_f32.step.Tie as tie
-use Rattle.decoder.proofs.plain_f32.step.Reads as reads
-use Rattle.decoder.proofs.plain_f32.step.Lts as lts
-use Rattle.decoder.proofs.parts_f32.demodulated.Reads as demodulated-reads
-use Rattle.decoder.proofs.parts_f32.error_of.Reads as error-of-reads
-use Rattle.decoder.proofs.parts_f32.gathered.Reads as gathered-reads
-use Rattle.decoder.proofs.parts_f32.level_of.Reads as level-of-reads
-use Rattle.decoder.proofs.parts_f32.moved.Reads as moved-reads
-use Rattle.decoder.proofs.parts_f32.stereo_of.Reads as stereo-of-reads
-use Rattle.decoder.proofs.parts_f32.within.Reads as within-reads
-use Rattle.phase.proofs.correction.correction_plain.Reads as correction-plain-reads
-use Rattle.phase.proofs.lookup.cos_f32.Reads as cos-f32-reads
-use Rattle.phase.proofs.lookup.sine_at.Reads as sine-at-reads
-use Rattle.phase.proofs.lookup.sine_at_twice.Reads as sine-at-twice-reads
 
--- src/plain_f32.rt:22:9
 cos-f32-requires : tie.Need-cos-f32-requires
 cos-f32-requires c κs = search needs
 
--- src/plain_f32.rt:23:28
 sine-at-requires : tie.Need-sine-at-requires
 sine-at-requires c κs = search needs
 
--- src/plain_f32.rt:23:9
 cos-f32-requires-2 : tie.Need-cos-f32-requires-2
 cos-f32-requires-2 c κs = search needs
 
--- src/plain_f32.rt:24:29
 sine-at-twice-requires : tie.Need-sine-at-twice-requires
 sine-at-twice-requires c κs = search needs
 
--- src/plain_f32.rt:24:9
 cos-f32-requires-3 : tie.Need-cos-f32-requires-3
 cos-f32-requires-3 c κs = search needs
 
--- src/plain_f32.rt:25:9
 error-of-requires : tie.Need-error-of-requires
 error-of-requires c κs = search needs
 
--- src/plain_f32.rt:26:9
 level-of-requires : tie.Need-level-of-requires
 level-of-requires c κs = search needs
 
--- src/plain_f32.rt:27:9
 stereo-of-requires : tie.Need-stereo-of-requires
 stereo-of-requires c κs = search needs
 
--- src/plain_f32.rt:28:9
 demodulated-requires : tie.Need-demodulated-requires
 demodulated-requires c κs = search needs
 
--- src/plain_f32.rt:29:32
 gathered-requires : tie.Need-gathered-requires
 gathered-requires c κs = search needs
 
--- src/plain_f32.rt:29:9
 within-requires : tie.Need-within-requires
 within-requires c κs = search needs
 
--- src/plain_f32.rt:30:9
 correction-plain-requires : tie.Need-correction-plain-requires
 correction-plain-requires c κs = search needs
 
--- src/plain_f32.rt:40:20
 moved-requires : tie.Need-moved-requires
 moved-requires c κs = search needs
 
--- src/plain_f32.rt:19:1
 returns : tie.Need-returns
-returns c = ?
+returns c = 
+    let k = c .before in
+    let w = k .before .before in
+    let g = w .before in
+    let m = g .before in
+    let b = m .before .before in
+    let l = b .before in
+    let e = l .before in
+    let c3 = e .before in
+    let c2 = c3 .before .before in
+    let c1 = c2 .before .before in
+    let a = c1 .before .before .args in
+    let parts : Parts f32 (a .table .now) (pllF32 (a .d)) (a .p) (e .error-of .result) (l .level-of .result) (w .within .result) (b .stereo-of .result) (c .moved .result) = record {
+      error = e .error-of .ensures ∙ rw (c1 .cos-f32 .ensures);
+      lock = l .level-of .ensures ∙ rw (c2 .cos-f322 .ensures, c2 .before .sine-at .ensures);
+      decision = b .stereo-of .ensures;
+      integrator = w .within .ensures ∙ rw (g .gathered .ensures);
+      turned = c .moved .ensures ∙ rw (k .correction-plain .ensures);
+    } in
+    (next-is f32 (a .table .now) (pllF32 (a .d)) (a .p) parts, difference-is f32 (a .table .now) (pllF32 (a .d)) (a .p) parts (a .x) (c3 .cos-f323 .ensures ∙ rw (c3 .before .sine-at-twice .ensures)) (m .demodulated .ensures))
 
 pub step-spec : {M : Type 1} → statement M
 step-spec =
