@@ -1,4 +1,2 @@
 pub mod Twice
 pub mod Blocks
-pub mod Phases
-pub mod Encoders

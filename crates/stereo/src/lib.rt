@@ -1,5 +1,3 @@
-// The stereo matrix, the multiplex encoders and the on-air verdict.
-pub mod encode;
+// The stereo matrix and the on-air verdict.
 pub mod matrix;
-pub mod rds;
 pub mod verdict;

@@ -1,0 +1,199 @@
+// The stereo multiplex encoder (ITU-R BS.450): the sum, the difference on the subcarrier at twice
+// the pilot's phase, and the pilot.
+use blocks::answer::Answer;
+use blocks::answer::is_accepted;
+use blocks::answer::table_rule;
+use blocks::answer::then_input;
+use blocks::answer::then_output;
+use numbers::float::is_finite_f64;
+use phase::lookup::cos_f32;
+use phase::lookup::sine_at;
+use phase::lookup::sine_at_twice;
+use phase::oscillator::Nco;
+use phase::oscillator::turn;
+ghost use mathlib.Core.Path.{_≡_};
+ghost use Prim.Native.Nat.{_+_, _*_, _%_, _^_};
+ghost use lib.ListN.{length, getD};
+ghost use lib.Ieee.{nan};
+ghost use Rattle.blocks.specs.Answer.{says};
+ghost use Rattle.blocks.specs.Samples.{samples};
+ghost use Rattle.encode.specs.Encode.{
+  goodLevel,
+  newEncodeOf,
+  setPilotOf,
+  encodeAt,
+  multiplexOf,
+  phaseAt,
+  encodeOf,
+};
+
+// The pilot's oscillator, the gain of the sum and difference signals, and the pilot's amplitude.
+pub struct StereoEncode {
+    pub nco: Nco,
+    pub main: f32,
+    pub pilot: f32,
+}
+
+// A new encoder, or the number of the refusal.
+pub enum NewEncode {
+    Made(StereoEncode),
+    Refused(u32),
+}
+
+// The changed encoder, or the number of the refusal and the encoder as it was.
+pub enum SetEncode {
+    Done(StereoEncode),
+    Refused(u32, StereoEncode),
+}
+
+// What a block answers, and the encoder after it.
+pub struct EncodeReply {
+    pub answer: Answer,
+    pub encoder: StereoEncode,
+}
+
+// Whether a pilot amplitude or an RDS level is allowed.
+pub fn good_level(x: f32) -> bool
+    ensures { λ r. ⌜ r ≡ goodLevel x ⌝ }
+{
+    if x >= 0.0 { x <= 0.2 } else { false }
+}
+
+// One multiplex sample at the pilot's phase p.
+pub fn multiplex(table: &[f32], main: f32, pilot: f32, p: u32, left: f32, right: f32) -> f32
+    ensures { λ r. ⌜ r ≡ multiplexOf (now (table .entry)) main pilot p left right ⌝ }
+{
+    let s1 = cos_f32(table, sine_at(p));
+    let s2 = cos_f32(table, sine_at_twice(p));
+    let m = (left + right) * 0.5;
+    let d = (left - right) * 0.5;
+    (main * m + (main * d) * s2) + pilot * s1
+}
+
+// The samples in order; the next phase comes back.
+fn run(e: StereoEncode, table: &[f32], left: &[f32], right: &[f32], output: &mut [f32]) -> u32
+    requires { ⌜ (length (now right) ≡ length (now left)) × (length (now output) ≡ length (now left)) ⌝ }
+    ensures { λ r. ⌜ r ≡ phaseAt e (length (now (left .entry))) ⌝ ∗ ⌜ now (output .exit) ≡ samples (length (now (left .entry))) (λ i. multiplexOf (now (table .entry)) (e .main) (e .pilot) (phaseAt e i) (getD (now (left .entry)) i nan) (getD (now (right .entry)) i nan)) ⌝ }
+{
+    let mut p = e.nco.phase;
+    let inc = e.nco.inc;
+    let mut i = 0usize;
+    while i < left.len() {
+        let l = left[i];
+        let r = right[i];
+        output[i] = multiplex(table, e.main, e.pilot, p, l, r);
+        p = std::num::wrapping_add_u32(p, inc);
+        i += 1;
+    }
+    p
+}
+
+impl StereoEncode {
+    // The causes 1, 12, 13, 14 and 15, in order.
+    pub fn new(frequency: f64, main: f32, pilot: f32, rate: f64) -> NewEncode
+        ensures { λ r. ⌜ r ≡ newEncodeOf frequency main pilot rate ⌝ }
+    {
+        if !(is_finite_f64(rate) & (rate > 0.0)) {
+            return NewEncode::Refused(1);
+        }
+        if !((frequency >= 18000.0) & (frequency <= 20000.0)) {
+            return NewEncode::Refused(12);
+        }
+        if !((main >= 0.0) & (main <= 1.0)) {
+            return NewEncode::Refused(13);
+        }
+        if !good_level(pilot) {
+            return NewEncode::Refused(14);
+        }
+        if !(rate >= 120000.0) {
+            return NewEncode::Refused(15);
+        }
+        let inc = turn(frequency / rate);
+        NewEncode::Made(StereoEncode {
+            nco: Nco { phase: 0, inc },
+            main,
+            pilot,
+        })
+    }
+
+    pub fn set_pilot(self, pilot: f32) -> SetEncode
+        ensures { λ r. ⌜ r ≡ setPilotOf self pilot ⌝ }
+    {
+        if !good_level(pilot) {
+            return SetEncode::Refused(14, self);
+        }
+        let nco = self.nco;
+        SetEncode::Done(StereoEncode {
+            nco,
+            main: self.main,
+            pilot,
+        })
+    }
+
+    pub fn pilot(self) -> f32
+        ensures { λ r. ⌜ r ≡ self .pilot ⌝ }
+    {
+        self.pilot
+    }
+
+    pub fn main(self) -> f32
+        ensures { λ r. ⌜ r ≡ self .main ⌝ }
+    {
+        self.main
+    }
+
+    pub fn phase(self) -> u32
+        ensures { λ r. ⌜ r ≡ self .nco .phase ⌝ }
+    {
+        self.nco.phase
+    }
+
+    pub fn set_phase(self, p: u32) -> StereoEncode
+        ensures { λ r. ⌜ r ≡ encodeAt self p ⌝ }
+    {
+        let inc = self.nco.inc;
+        StereoEncode {
+            nco: Nco { phase: p, inc },
+            main: self.main,
+            pilot: self.pilot,
+        }
+    }
+
+    pub fn increment(self) -> u32
+        ensures { λ r. ⌜ r ≡ self .nco .inc ⌝ }
+    {
+        self.nco.inc
+    }
+
+    pub fn reset(self) -> StereoEncode
+        ensures { λ r. ⌜ r ≡ encodeAt self 0 ⌝ }
+    {
+        self.set_phase(0)
+    }
+
+    // A block of left and right to the multiplex.
+    pub fn encode(
+        self,
+        table: &[f32],
+        left: &[f32],
+        right: &[f32],
+        output: &mut [f32],
+    ) -> EncodeReply
+        ensures { λ r. ⌜ record { said = says (r .answer); output = now (output .exit); encoder = r .encoder } ≡ encodeOf self (now (table .entry)) (now (left .entry)) (now (right .entry)) (now (output .entry)) ⌝ }
+    {
+        let n = left.len();
+        let a = then_input(table_rule(table.len()), n, right.len());
+        let answer = then_output(a, n, output.len());
+        if !is_accepted(answer) {
+            return EncodeReply {
+                answer,
+                encoder: self,
+            };
+        }
+        let p = run(self, table, left, right, output);
+        EncodeReply {
+            answer,
+            encoder: self.set_phase(p),
+        }
+    }
+}

@@ -1,0 +1,3 @@
+// The multiplex encoders, without and with RDS.
+pub mod encode;
+pub mod rds;
