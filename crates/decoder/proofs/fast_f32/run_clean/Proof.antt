@@ -3,8 +3,11 @@ use mathlib.Core.Path.{_≡_, refl, sym, _∙_}
 use Prim.Native.Nat.{_-_}
 use native.Mathlib.Omega.{arith}
 use lib.ListN.{length}
+use lib.Ieee.{nan}
+use Rattle.decoder.specs.Gains.{nought}
 use Rattle.decoder.specs.Formats.{f32}
 use Rattle.decoder.specs.Records.{pllF32}
+use Rattle.decoder.proofs.Scan.{each-finite}
 use Rattle.decoder.proofs.Loops.{Going, going-start, going-next, going-end, any-default}
 use Rattle.decoder.proofs.fast_f32.run_clean.Statement.{statement}
 use Rattle.decoder.proofs.fast_f32.run_clean.Tie as tie
@@ -15,8 +18,12 @@ Inv-loop table mpx pilot sum₀ difference₀ st₀ i₀ sum difference st i = G
 abbrev μ-loop : tie.MeasureT-loop
 μ-loop table mpx pilot sum₀ difference₀ st₀ i₀ sum difference st i = length mpx - i
 
+-- the entry, from where the loop begins
+abbrev start : tie.After-slice-known2 Inv-loop μ-loop → tie.Start Inv-loop μ-loop
+start c = c .before .before .before .before .before
+
 loop-holds : tie.Need-loop-holds Inv-loop μ-loop
-loop-holds c = going-start f32 _ _ _ _ (c .pre .1) (c .pre .2)
+loop-holds c = let e = start c .pre in going-start f32 _ _ _ _ (e .1) (e .2)
 
 mul-x : tie.Need-mul-x Inv-loop μ-loop
 mul-x c = search needs
@@ -31,7 +38,10 @@ shared-slice-read-p : tie.Need-shared-slice-read-p Inv-loop μ-loop
 shared-slice-read-p c = search needs
 
 step-clean-requires : tie.Need-step-clean-requires Inv-loop μ-loop
-step-clean-requires c κs = ?
+step-clean-requires c κs =
+    let k = c .before .before .before in
+    let b = start (k .before) in
+    each-finite (b .args .pilot .now) (k .loop .i) nan (b .pre .3) (omega (arith, b .pre .0, c .before .before .loop-test .taken))
 
 mul-sum : tie.Need-mul-sum Inv-loop μ-loop
 mul-sum c = search needs
@@ -52,16 +62,26 @@ loop-less : tie.Need-loop-less Inv-loop μ-loop
 loop-less c = omega arith
 
 loop-again : tie.Need-loop-again Inv-loop μ-loop
-loop-again c = ?
+loop-again c =
+    let s = c .before in
+    let k = s .before .before .before .before in
+    let h = s .before .before .before .loop-test .taken in
+    let b = start (k .before) in
+    let a = b .args in
+    going-next f32 (a .table .now) (a .mpx .now) (a .pilot .now) (pllF32 (a .d)) (k .loop .inv) h
+    (any-default (a .mpx .now) (k .loop .i) nan nought h)
+    (any-default (a .pilot .now) (k .loop .i) nan nought (omega (arith, b .pre .0)))
+    (s .step-clean .ensures .1)
+    (s .step-clean .ensures .0)
 
 same-length : tie.Need-same-length Inv-loop μ-loop
-same-length c = ?
+same-length c = c .before .loop .inv .sums .size ∙ sym (start (c .before .before) .pre .1)
 
 same-length-2 : tie.Need-same-length-2 Inv-loop μ-loop
-same-length-2 c = ?
+same-length-2 c = c .before .loop .inv .differences .size ∙ sym (start (c .before .before) .pre .2)
 
 returns : tie.Need-returns Inv-loop μ-loop
-returns c = ?
+returns c = going-end f32 _ _ _ _ (c .before .loop .inv) (c .loop-test .left)
 
 pub run-clean-spec : {M : Type 1} → statement M
 run-clean-spec =
