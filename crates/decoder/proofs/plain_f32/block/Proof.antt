@@ -1,0 +1,61 @@
+use borrow.Author.Needs.{needs}
+use mathlib.Core.Path.{_≡_, sym, ap, _∙_}
+use mathlib.Core.Bool.{true}
+use lib.ListN.{length}
+use Rattle.blocks.specs.Answer.{says, accepts}
+use Rattle.blocks.proofs.Tests.{failed, passed}
+use Rattle.decoder.specs.Formats.{f32}
+use Rattle.decoder.specs.Records.{pllF32}
+use Rattle.decoder.proofs.Loops.{turned-back, carried-out, lengths-equal}
+use Rattle.decoder.proofs.plain_f32.block.Statement.{statement}
+use Rattle.decoder.proofs.plain_f32.block.Tie as tie
+
+abbrev start : tie.After-block-lengths → tie.Start
+start l = l .before .before .before .before .before .before
+
+taken : (c : tie.Else1) → accepts (says (c .before .before .block-lengths .result)) ≡ true
+taken c = passed (c .before .is-accepted .ensures) (c .if1 .left)
+
+block-lengths-requires : tie.Need-block-lengths-requires
+block-lengths-requires c κs = search needs
+
+is-accepted-requires : tie.Need-is-accepted-requires
+is-accepted-requires c κs = search needs
+
+returns : tie.Need-returns
+returns c = 
+    let l = c .before .before in
+    let a = start l .args in
+    turned-back f32 (a .table .now) (a .mpx .now) (a .pilot .now) (pllF32 (a .d)) (a .sum .now) (a .difference .now) _ (l .block-lengths .ensures) (failed (c .before .is-accepted .ensures) (c .if1 .taken))
+
+run-requires : tie.Need-run-requires
+run-requires c κs = 
+    let e = c .before .before in
+    let k = lengths-equal (length (start (e .before .before) .args .table .now)) _ _ _ _ (sym (ap accepts (e .before .before .block-lengths .ensures)) ∙ taken e) in
+    (k .0, k .1, k .2)
+
+same-length : tie.Need-same-length
+same-length c = search needs
+
+same-length-2 : tie.Need-same-length-2
+same-length-2 c = search needs
+
+returns-2 : tie.Need-returns-2
+returns-2 c = 
+    let r = c .before .before .before .before in
+    let e = r .before .before .before in
+    let l = e .before .before in
+    let a = start l .args in
+    carried-out f32 (a .table .now) (a .mpx .now) (a .pilot .now) (pllF32 (a .d)) (a .sum .now) (a .difference .now) _ (l .block-lengths .ensures) (taken e) (r .run .ensures)
+
+pub block-spec : {M : Type 1} → statement M
+block-spec =
+    tie.close
+    (tie.spec
+    block-lengths-requires
+    is-accepted-requires
+    returns
+    run-requires
+    same-length
+    same-length-2
+    returns-2)
