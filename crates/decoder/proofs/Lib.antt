@@ -1,1 +1,5 @@
 pub mod Loops
+pub mod Ranges
+pub mod Level
+pub mod Fit
+pub mod Held

@@ -1,0 +1,12 @@
+use borrow.Author.Needs.{needs}
+use Rattle.decoder.proofs.pll_q15.StereoPllQ15.lock_level.Statement.{statement}
+use Rattle.decoder.proofs.pll_q15.StereoPllQ15.lock_level.Tie as tie
+
+i64-to-f64-requires : tie.Need-i64-to-f64-requires
+i64-to-f64-requires c κs = search needs
+
+returns : tie.Need-returns
+returns c = ?
+
+pub lock-level-spec : {M : Type 1} → statement M
+lock-level-spec = tie.close (tie.spec i64-to-f64-requires returns)
