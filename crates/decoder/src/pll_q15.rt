@@ -52,9 +52,9 @@ fn holds(x: f64, scale: f64) -> bool
 fn all_hold(g: LoopGains) -> bool
     ensures { λ r. ⌜ r ≡ allHold (gains g) ⌝ }
 {
-    let a = holds(g.kp, 17179869184.0) & holds(g.ki, 17179869184.0);
-    let b = holds(g.imax, 18446744073709551616.0) & holds(g.beta, 2147483648.0);
-    a & b & (holds(g.on, 2305843009213693952.0) & holds(g.off, 2305843009213693952.0))
+    let levels = holds(g.on, 2305843009213693952.0) & holds(g.off, 2305843009213693952.0);
+    let rest = holds(g.imax, 18446744073709551616.0) & (holds(g.beta, 2147483648.0) & levels);
+    holds(g.kp, 17179869184.0) & (holds(g.ki, 17179869184.0) & rest)
 }
 
 // Whether gain times 2^30 plus imax fits an i64.

@@ -1,5 +1,4 @@
 use borrow.Author.Needs.{needs}
-use mathlib.Core.Bool.{and-assoc}
 use lib.Ieee.{ofBits}
 use Rattle.decoder.proofs.pll_q15.all_hold.Statement.{statement}
 use Rattle.decoder.proofs.pll_q15.all_hold.Tie as tie
@@ -29,7 +28,7 @@ returns c =
     let h4 = h5 .before in
     let h3 = h4 .before in
     let h2 = h3 .before in
-    rw (h2 .before .holds .ensures, h2 .holds2 .ensures, h3 .holds3 .ensures, h4 .holds4 .ensures, h5 .holds5 .ensures, c .holds6 .ensures) (simp and-assoc)
+    rw (h2 .before .holds .ensures, h2 .holds2 .ensures, h3 .holds3 .ensures, h4 .holds4 .ensures, h5 .holds5 .ensures, c .holds6 .ensures)
 
 pub all-hold-spec : {M : Type 1} → statement M
 all-hold-spec =
