@@ -3,3 +3,4 @@ pub mod Ranges
 pub mod Level
 pub mod Fit
 pub mod Held
+pub mod Step
