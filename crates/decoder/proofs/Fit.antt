@@ -1,20 +1,22 @@
 -- A fit Q15 record: the tests one by one, and that a step keeps it fit, for any table. Assumes nothing.
-use Prim.Native.Nat.{_*_, _+_, _^_, _<_}
+use Prim.Native.Nat.{ℕ, _*_, _+_, _^_, _<_}
 use mathlib.Core.Path.{_≡_, refl}
 use mathlib.Core.Bool.{true, _&&_, false≢true}
 use mathlib.Core.List.{List}
 use lib.Dec.{T}
 use lib.IntN.{ℤ, pos, negsuc, negℤ, natAbs, _*ℤ_}
-use lib.Signed.{leZ, nonNeg}
+use lib.ListN.{length, getD, set}
+use lib.Signed.{mag, leZ, nonNeg}
 use mir.Syntax.{w16}
 use mir.Val.{SFits}
 use Rattle.numbers.proofs.Integers.{product-le}
 use Rattle.phase.specs.Lookup.{cosQ15, sineAt}
 use Rattle.phase.proofs.Between.{cosQ15-fits}
-use Rattle.decoder.specs.Machine.{Pll, limited, nextOf, levelOf, integOf}
+use Rattle.decoder.specs.Machine.{Pll, limited, nextOf, differenceOf}
 use Rattle.decoder.specs.Formats.{withinZ, fits64, guardOf, levelLow, levelHigh, levelFit, fitQ15, q15}
 use Rattle.decoder.proofs.Ranges.{and-out, not-below, guarded-sum, limited-within}
 use Rattle.decoder.proofs.Level.{next-within}
+use Rattle.decoder.proofs.Loops.{Going, going-next}
 
 pub record Fit (d : Pll ℤ) : Type 0 where
   pub kp : leZ (pos 0) (d .kp) ≡ true
@@ -91,3 +93,14 @@ module _ (d : Pll ℤ) (fit : fitQ15 d ≡ true) where
 
 pub fit-next : (t : List ℤ) (d : Pll ℤ) (p : ℤ) → SFits w16 p → fitQ15 d ≡ true → fitQ15 (nextOf q15 t d p) ≡ true
 fit-next t d p s h = next-fit d h t p s
+
+-- ---- a loop's samples before i are done, and the state is fit
+module _ (t mpx pilot : List ℤ) (d : Pll ℤ) where
+  abbrev pub GoingFit : ℕ → List ℤ → List ℤ → Pll ℤ → Type 0
+  GoingFit i sum difference st = Going q15 t mpx pilot d i sum difference st × (fitQ15 st ≡ true)
+
+  -- one turn, as `going-next` has it
+  pub turn : {i : ℕ} {sum difference : List ℤ} {st st' : Pll ℤ} {x p y : ℤ} → GoingFit i sum difference st → i < length mpx → x ≡ getD mpx i (pos 0) → mag (getD pilot i (pos 0)) < 2 ^ 15 → p ≡ getD pilot i (pos 0)
+      → y ≡ differenceOf q15 t st x p → st' ≡ nextOf q15 t st p → GoingFit (i + 1) (set sum i x) (set difference i y) st'
+  turn {i} {sum} {difference} {st} {st'} {x} {p} g h ex fp ep ey es =
+      (going-next q15 t mpx pilot d (g .0) h ex ep ey es, rw es (fit-next t st p (rw ep (record { sfits = fp })) (g .1)))
