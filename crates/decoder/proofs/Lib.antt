@@ -4,3 +4,4 @@ pub mod Level
 pub mod Fit
 pub mod Held
 pub mod Step
+pub mod BlockQ15

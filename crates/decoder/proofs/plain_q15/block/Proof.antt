@@ -1,48 +1,48 @@
 use borrow.Author.Needs.{needs}
+use Rattle.blocks.specs.Answer.{says}
+use Rattle.decoder.proofs.BlockQ15.{unfit, wrong-length, runs, ran}
 use Rattle.decoder.proofs.plain_q15.block.Statement.{statement}
 use Rattle.decoder.proofs.plain_q15.block.Tie as tie
-use Rattle.decoder.proofs.plain_q15.block.Reads as reads
-use Rattle.decoder.proofs.plain_q15.block.Lts as lts
-use Rattle.blocks.proofs.answer.is_accepted.Reads as is-accepted-reads
-use Rattle.decoder.proofs.lengths.block_lengths.Reads as block-lengths-reads
-use Rattle.decoder.proofs.plain_q15.run.Reads as run-reads
-use Rattle.decoder.proofs.pll_q15.is_fit.Reads as is-fit-reads
 
--- src/plain_q15.rt:80:9
 is-fit-requires : tie.Need-is-fit-requires
 is-fit-requires c κs = search needs
 
--- src/plain_q15.rt:81:9
 returns : tie.Need-returns
-returns c = ?
+returns c = unfit _ _ _ _ _ _ (c .before .is-fit .ensures) (c .if1 .taken)
 
--- src/plain_q15.rt:83:9
 block-lengths-requires : tie.Need-block-lengths-requires
 block-lengths-requires c κs = search needs
 
--- src/plain_q15.rt:84:9
 is-accepted-requires : tie.Need-is-accepted-requires
 is-accepted-requires c κs = search needs
 
--- src/plain_q15.rt:85:9
 returns-2 : tie.Need-returns-2
-returns-2 c = ?
+returns-2 c =
+    let l = c .before .before in
+    let f = l .before in
+    wrong-length _ _ _ _ _ _ (f .before .is-fit .ensures) (f .if1 .left) (says (l .block-lengths .result)) (l .block-lengths .ensures) (c .before .is-accepted .ensures) (c .if2 .taken)
 
--- src/plain_q15.rt:87:9
 run-requires : tie.Need-run-requires
-run-requires c κs = ?
+run-requires c κs =
+    let e = c .before .before in
+    let l = e .before .before in
+    let f = l .before in
+    let a = f .before .before .args in
+    runs (a .table .now) (a .mpx .now) (a .pilot .now) (a .sum .now) (a .difference .now) _ (f .before .is-fit .ensures) (f .if1 .left) (says (l .block-lengths .result)) (l .block-lengths .ensures) (e .before .is-accepted .ensures) (e .if2 .left)
 
--- src/plain_q15.rt:70:1
 same-length : tie.Need-same-length
 same-length c = search needs
 
--- src/plain_q15.rt:70:1
 same-length-2 : tie.Need-same-length-2
 same-length-2 c = search needs
 
--- src/plain_q15.rt:70:1
 returns-3 : tie.Need-returns-3
-returns-3 c = ?
+returns-3 c =
+    let r = c .before .before in
+    let e = r .before .before .before in
+    let l = e .before .before in
+    let f = l .before in
+    ran _ _ _ _ _ _ (f .before .is-fit .ensures) (f .if1 .left) (says (l .block-lengths .result)) (l .block-lengths .ensures) (e .before .is-accepted .ensures) (e .if2 .left) (r .run .ensures)
 
 pub block-spec : {M : Type 1} → statement M
 block-spec =
