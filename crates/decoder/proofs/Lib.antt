@@ -5,3 +5,5 @@ pub mod Fit
 pub mod Held
 pub mod Step
 pub mod BlockQ15
+pub mod Scaled
+pub mod Fresh
