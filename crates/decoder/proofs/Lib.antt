@@ -1,3 +1,11 @@
 pub mod Loops
 pub mod Scan
 pub mod Steps
+pub mod Ranges
+pub mod Level
+pub mod Fit
+pub mod Held
+pub mod Step
+pub mod BlockQ15
+pub mod Scaled
+pub mod Fresh

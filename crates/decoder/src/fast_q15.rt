@@ -2,11 +2,9 @@
 // without the stop that a fit level never reaches. The correction's rounding stops at the largest
 // i64, as the plain one does.
 use crate::lengths::block_lengths;
-use crate::parts_f32::moved;
-use crate::parts_q15::{decided, scaled_sum, selected, within, ReplyQ15, StepQ15};
+use crate::parts_q15::{advanced, level_after, selected, ReplyQ15, StepQ15};
 use crate::pll_q15::{is_fit, StereoPllQ15};
 use blocks::answer::{is_accepted, Answer};
-use numbers::fixed::{low32, round_shift};
 use phase::lookup::{interp_q15, sine_at, sine_at_twice};
 ghost use mathlib.Core.Path.{_≡_};
 ghost use mathlib.Core.Bool.{true};
@@ -24,7 +22,7 @@ fn level_next(beta: i64, level: i64, q: i64) -> i64
     requires { ⌜ levelFit beta level ≡ true ⌝ ∗ ⌜ natAbs q ≤ 2 ^ 30 ⌝ }
     ensures { λ r. ⌜ r ≡ levelQ15 beta level q ⌝ }
 {
-    level + beta * (q - ((level + 1073741824) >> 31))
+    level_after(beta, level, q, (level + 1073741824) >> 31)
 }
 
 // The exact product of a sample and a table value, which lies within an i16.
@@ -55,28 +53,11 @@ fn step(table: &[i16], d: StereoPllQ15, x: i16, p: i16) -> StepQ15
     let c = interp_q15(table, d.phase);
     let s = interp_q15(table, sine_at(d.phase));
     let s2 = interp_q15(table, sine_at_twice(d.phase));
-    let e = product(p, c);
     let level = level_next(d.beta, d.level, product(p, s));
-    let stereo = decided(level, d.on, d.off, d.stereo);
-    let difference = selected(stereo & d.enabled, demodulated(x, s2));
-    let integ = within(d.imax, scaled_sum(d.ki, e, d.integ));
-    let correction = low32(round_shift(scaled_sum(d.kp, e, integ), 32));
+    let next = advanced(d, product(p, c), level);
     StepQ15 {
-        next: StereoPllQ15 {
-            kp: d.kp,
-            ki: d.ki,
-            imax: d.imax,
-            beta: d.beta,
-            on: d.on,
-            off: d.off,
-            step0: d.step0,
-            phase: moved(d.phase, d.step0, correction),
-            integ,
-            level,
-            stereo,
-            enabled: d.enabled,
-        },
-        difference,
+        next,
+        difference: selected(next.stereo & next.enabled, demodulated(x, s2)),
     }
 }
 

@@ -1,15 +1,20 @@
 // The parts of a sample's steps that the Q15 loops share. Some ask for the bounds that a fit record
 // gives; no sum or product then passes an i64.
+use crate::parts_f32::moved;
 use crate::pll_q15::StereoPllQ15;
 use blocks::answer::Answer;
+use numbers::fixed::{low32, round_shift};
 ghost use mathlib.Core.Path.{_≡_};
-ghost use mathlib.Core.Bool.{cond};
+ghost use mathlib.Core.Bool.{cond, true};
+ghost use mathlib.Core.List.{List};
 ghost use Prim.Native.Nat.{_+_, _*_, _≤_, _<_, _^_};
-ghost use lib.IntN.{pos, natAbs, _+ℤ_, _*ℤ_};
+ghost use lib.IntN.{ℤ, pos, natAbs, _+ℤ_, _*ℤ_};
 ghost use lib.Signed.{nonNeg};
 ghost use lib.Dec.{T};
-ghost use Rattle.decoder.specs.Machine.{decide, limited};
-ghost use Rattle.decoder.specs.Formats.{q15};
+ghost use Rattle.numbers.specs.Integers.{roundShiftOf};
+ghost use Rattle.decoder.specs.Machine.{decide, limited, errorOf, levelOf, nextOf};
+ghost use Rattle.decoder.specs.Formats.{q15, levelQ15, levelFit, fitQ15};
+ghost use Rattle.decoder.specs.Records.{pllQ15};
 
 // A decoder after a sample, and the sample's difference output.
 pub struct StepQ15 {
@@ -58,4 +63,26 @@ pub(crate) fn scaled_sum(gain: i64, e: i64, offset: i64) -> i64
     ensures { λ r. ⌜ r ≡ gain *ℤ e +ℤ offset ⌝ }
 {
     gain * e + offset
+}
+
+// The level after a sample, from the level rounded to 31 places.
+pub(crate) fn level_after(beta: i64, level: i64, q: i64, rounded: i64) -> i64
+    requires { ⌜ levelFit beta level ≡ true ⌝ ∗ ⌜ natAbs q ≤ 2 ^ 30 ⌝ ∗ ⌜ rounded ≡ roundShiftOf level 31 ⌝ }
+    ensures { λ r. ⌜ r ≡ levelQ15 beta level q ⌝ }
+{
+    level + beta * (q - rounded)
+}
+
+// The decoder after a sample whose error is e and whose level is `level`.
+pub(crate) fn advanced(mut d: StereoPllQ15, e: i64, level: i64) -> StereoPllQ15
+    requires { ⌜ fitQ15 (pllQ15 d) ≡ true ⌝ ∗ ⌜ natAbs e ≤ 2 ^ 30 ⌝ }
+    ensures { λ r. ⌜ ((t : List ℤ) (p : ℤ) → e ≡ errorOf q15 t (pllQ15 d) p → level ≡ levelOf q15 t (pllQ15 d) p → pllQ15 r ≡ nextOf q15 t (pllQ15 d) p) ⌝ }
+{
+    let integ = within(d.imax, scaled_sum(d.ki, e, d.integ));
+    let correction = low32(round_shift(scaled_sum(d.kp, e, integ), 32));
+    d.phase = moved(d.phase, d.step0, correction);
+    d.integ = integ;
+    d.level = level;
+    d.stereo = decided(level, d.on, d.off, d.stereo);
+    d
 }

@@ -8,7 +8,7 @@ ghost use lib.IntN.{pos};
 ghost use lib.Ieee as Ieee;
 ghost use lib.Ieee.{binary64};
 ghost use Rattle.decoder.specs.Machine.{enabledOf, resetOf};
-ghost use Rattle.decoder.specs.Formats.{fits64, guardOf, fitQ15};
+ghost use Rattle.decoder.specs.Formats.{withinZ, fits64, guardOf, fitQ15};
 ghost use Rattle.decoder.specs.Gains.{
     power, freshQ15, holds64, allHold, buildQ15, newQ15Of
 };
@@ -52,9 +52,9 @@ fn holds(x: f64, scale: f64) -> bool
 fn all_hold(g: LoopGains) -> bool
     ensures { λ r. ⌜ r ≡ allHold (gains g) ⌝ }
 {
-    let a = holds(g.kp, 17179869184.0) & holds(g.ki, 17179869184.0);
-    let b = holds(g.imax, 18446744073709551616.0) & holds(g.beta, 2147483648.0);
-    a & b & (holds(g.on, 2305843009213693952.0) & holds(g.off, 2305843009213693952.0))
+    let levels = holds(g.on, 2305843009213693952.0) & holds(g.off, 2305843009213693952.0);
+    let rest = holds(g.imax, 18446744073709551616.0) & (holds(g.beta, 2147483648.0) & levels);
+    holds(g.kp, 17179869184.0) & (holds(g.ki, 17179869184.0) & rest)
 }
 
 // Whether gain times 2^30 plus imax fits an i64.
@@ -178,39 +178,23 @@ impl StereoPllQ15 {
     }
 }
 
-// Whether a block takes the record.
+// Whether z is in lo..=hi.
+fn in_range(lo: i64, hi: i64, z: i64) -> bool
+    ensures { λ r. ⌜ r ≡ withinZ lo hi z ⌝ }
+{
+    (lo <= z) & (z <= hi)
+}
+
+// Whether a block takes the record; -imax would pass the largest i64 at the smallest one.
 pub fn is_fit(d: StereoPllQ15) -> bool
     ensures { λ r. ⌜ r ≡ fitQ15 (pllQ15 d) ⌝ }
 {
-    if d.kp < 0 {
+    let imax = d.imax;
+    if imax < 0 {
         return false;
     }
-    if d.ki < 0 {
-        return false;
-    }
-    if d.imax < 0 {
-        return false;
-    }
-    if d.beta < 0 {
-        return false;
-    }
-    if d.beta > 2147483648 {
-        return false;
-    }
-    if !guard_fits(d.kp, d.imax) {
-        return false;
-    }
-    if !guard_fits(d.ki, d.imax) {
-        return false;
-    }
-    if d.integ < -d.imax {
-        return false;
-    }
-    if d.integ > d.imax {
-        return false;
-    }
-    if d.level < -2305843010287435776 {
-        return false;
-    }
-    d.level <= 2305843010287435775
+    let gains = (d.kp >= 0) & (d.ki >= 0) & in_range(0, 2147483648, d.beta);
+    let guards = guard_fits(d.kp, imax) & guard_fits(d.ki, imax);
+    let level = in_range(-2305843010287435776, 2305843010287435775, d.level);
+    gains & guards & in_range(-imax, imax, d.integ) & level
 }

@@ -1,0 +1,40 @@
+-- The ways out of a Q15 block, by the outcomes of its two tests: an unfit record, a length at fault, the samples carried out. Assumes nothing.
+use Prim.Native.Nat.{ℕ}
+use mathlib.Core.Path.{_≡_, refl, sym, ap, _∙_}
+use mathlib.Core.Bool.{Bool, true, false, not, cond}
+use mathlib.Core.List.{List}
+use lib.IntN.{ℤ}
+use lib.ListN.{length}
+use Rattle.blocks.specs.Answer.{Said, accepted, turned, accepts, firstOf}
+use Rattle.decoder.specs.Machine.{Pll, Ran, lengthsSay, blockSays, blockOf}
+use Rattle.decoder.specs.Formats.{q15, fitQ15}
+use Rattle.decoder.proofs.Loops.{turned-back, carried-out, lengths-equal}
+
+-- a test that was negated in the code
+other : {a b c : Bool} → a ≡ b → not a ≡ c → b ≡ not c
+other {a} e h = sym e ∙ twice a ∙ ap not h
+  where
+    twice : (a : Bool) → a ≡ not (not a)
+    twice true = refl
+    twice false = refl
+
+module _ (t mpx pilot sum difference : List ℤ) (d : Pll ℤ) {b : Bool} (fit : b ≡ fitQ15 d) where
+  pub unfit : not b ≡ true → record { said = turned 0; sum = sum; difference = difference; pll = d } ≡ blockOf q15 d t mpx pilot sum difference
+  unfit h = turned-back q15 t mpx pilot d sum difference (turned 0) (rw (other fit h)) refl
+
+  -- a is whether the lengths' answer s is `accepted`
+  module _ (h : not b ≡ false) (s : Said) (e : s ≡ lengthsSay (length t) (length mpx) (length pilot) (length sum) (length difference)) {a : Bool} (k : a ≡ accepts s) where
+    says-is : s ≡ blockSays q15 d (length t) (length mpx) (length pilot) (length sum) (length difference)
+    says-is = rw (other fit h) e
+
+    pub wrong-length : not a ≡ true → record { said = s; sum = sum; difference = difference; pll = d } ≡ blockOf q15 d t mpx pilot sum difference
+    wrong-length l = turned-back q15 t mpx pilot d sum difference s says-is (other k l)
+
+    module _ (l : not a ≡ false) where
+      pub runs : (length pilot ≡ length mpx) × (length sum ≡ length mpx) × (length difference ≡ length mpx) × (fitQ15 d ≡ true)
+      runs =
+          let n = lengths-equal (length t) (length mpx) (length pilot) (length sum) (length difference) (rw e at (other k l)) in
+          (n .0, n .1, n .2, other fit h)
+
+      pub ran : {sums differences : List ℤ} {next : Pll ℤ} → Ran q15 t mpx pilot d sums differences next → record { said = s; sum = sums; difference = differences; pll = next } ≡ blockOf q15 d t mpx pilot sum difference
+      ran r = carried-out q15 t mpx pilot d sum difference s says-is (other k l) r
