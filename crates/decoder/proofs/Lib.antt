@@ -9,3 +9,4 @@ pub mod Step
 pub mod BlockQ15
 pub mod Scaled
 pub mod Fresh
+pub mod History
