@@ -40,7 +40,7 @@ pub record Sound (g : Gains) : Type 0 where
   pub beta-le : le (g .beta) (fin false 1 (pos 0)) ≡ true
 
 -- ---- the record's tests
-origin-within : (m : ℤ) → leZ (pos 0) m ≡ true → withinZ (negℤ m) m (pos 0) ≡ true
+pub origin-within : (m : ℤ) → leZ (pos 0) m ≡ true → withinZ (negℤ m) m (pos 0) ≡ true
 origin-within m h = let l = le-yes (pos 0) m h in within-in (negℤ m) m (pos 0) (omega (arith, up-neg m, dn-neg m)) (omega arith)
 
 pub fit-fresh : (g : Gains) (d : Pll ℤ) → buildQ15 g ≡ made d → Sound g → fitQ15 d ≡ true

@@ -10,3 +10,5 @@ pub mod BlockQ15
 pub mod Scaled
 pub mod Fresh
 pub mod History
+pub mod Agreement
+pub mod LimitQ15

@@ -1,11 +1,17 @@
 -- The machine over whole calls, and the levels of its history. Source: document 01, "The machine over whole calls" and demand 3. Definitions only.
 use Prim.Native.Nat.{ℕ, zero, suc}
-use mathlib.Core.Bool.{Bool, true, false, cond}
+use mathlib.Core.Bool.{Bool, true, false, _&&_, cond}
 use mathlib.Core.List.{List, [], _∷_, _++_}
 use mathlib.Core.Path.{_≡_}
 use lib.ListN.{length, getD}
+use lib.IntN.{ℤ, pos}
+use lib.Ieee.{Float, fin}
+use mir.Syntax.{w16}
+use mir.Val.{SFits}
+use Rattle.numbers.specs.Floats.{inRange}
 use Rattle.blocks.specs.Answer.{Said, accepted, accepts}
 use Rattle.decoder.specs.Machine.{Pll, Arithmetic, stateAt, Blocked, blockOf, enabledOf, resetOf}
+use Rattle.decoder.specs.Formats.{f32}
 
 -- a call with what it brings: table, mpx, pilot, and what the two outputs held
 pub data Call (A : Type 0) : Type 0 where
@@ -62,3 +68,29 @@ module _ {A : Type 0} (F : Arithmetic A) where
     pub split : ls ≡ before ++ (at ∷ after)
     pub rose : F .reaches at on ≡ true
     pub stayed : NoneUnder off after
+
+-- ---- what the integrator's limit asks of the calls
+-- f32: every table entry lies in -1 to 1
+abbrev pub unitTable : List Float → Bool
+unitTable [] = true
+unitTable (x ∷ xs) = inRange (fin true 1 (pos 0)) (fin false 1 (pos 0)) x && unitTable xs
+
+-- .. of the accepted blocks
+abbrev pub UnitTables : Pll Float → List (Call Float) → Type 0
+UnitTables d [] = Unit {0}
+UnitTables d (block t x p y z ∷ cs) = (accepts (blockOf f32 d t x p y z .said) ≡ true → unitTable t ≡ true) × UnitTables (blockOf f32 d t x p y z .pll) cs
+UnitTables d (enable ∷ cs) = UnitTables (enabledOf true d) cs
+UnitTables d (disable ∷ cs) = UnitTables (enabledOf false d) cs
+UnitTables d (reset ∷ cs) = UnitTables (resetOf (f32 .nought) d) cs
+
+-- Q15: every pilot sample is an i16, which a program's slice cannot help (the logic's lists hold any ℤ)
+abbrev pub Samples16 : List ℤ → Type 0
+Samples16 [] = Unit {0}
+Samples16 (p ∷ ps) = SFits w16 p × Samples16 ps
+
+abbrev pub Pilots16 : List (Call ℤ) → Type 0
+Pilots16 [] = Unit {0}
+Pilots16 (block t x p y z ∷ cs) = Samples16 p × Pilots16 cs
+Pilots16 (enable ∷ cs) = Pilots16 cs
+Pilots16 (disable ∷ cs) = Pilots16 cs
+Pilots16 (reset ∷ cs) = Pilots16 cs

@@ -5,3 +5,5 @@ pub mod Value
 pub mod Pattern
 pub mod Own
 pub mod Finite
+pub mod Bound
+pub mod Order
