@@ -1,11 +1,10 @@
 -- The ways out of a Q15 block, by the outcomes of its two tests: an unfit record, a length at fault, the samples carried out. Assumes nothing.
-use Prim.Native.Nat.{ℕ}
 use mathlib.Core.Path.{_≡_, refl, sym, ap, _∙_}
-use mathlib.Core.Bool.{Bool, true, false, not, cond}
+use mathlib.Core.Bool.{Bool, true, false, not}
 use mathlib.Core.List.{List}
 use lib.IntN.{ℤ}
 use lib.ListN.{length}
-use Rattle.blocks.specs.Answer.{Said, accepted, turned, accepts, firstOf}
+use Rattle.blocks.specs.Answer.{Said, turned, accepts}
 use Rattle.decoder.specs.Machine.{Pll, Ran, lengthsSay, blockSays, blockOf}
 use Rattle.decoder.specs.Formats.{q15, fitQ15}
 use Rattle.decoder.proofs.Loops.{turned-back, carried-out, lengths-equal}

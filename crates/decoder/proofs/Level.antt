@@ -1,15 +1,15 @@
 -- The Q15 level: no step of its arithmetic passes an i64, and it keeps its bounds, for any beta in 0..=2^31 and any q of at most 2^30 in size. Assumes nothing.
 use Prim.Native.Nat.{ℕ, suc, _+_, _*_, _^_, _≤_, _<_}
-use mathlib.Core.Path.{_≡_, refl, sym, ap, _∙_}
+use mathlib.Core.Path.{_≡_}
 use mathlib.Core.Bool.{true, false≢true}
 use native.Mathlib.Omega.{arith}
 use native.Mathlib.Nat.{mul-le-mul-right}
 use lib.Dec.{lit<}
 use lib.IntN.{ℤ, pos, negsuc, negℤ, natAbs, _+ℤ_, _-ℤ_, _*ℤ_}
-use lib.Signed.{mag, leZ, shrZ}
+use lib.Signed.{shrZ}
 use mir.Syntax.{w64}
 use mir.Val.{SFits}
-use Rattle.rounding.proofs.Lin.{up, dn, add-law, sub-law', up-neg, dn-neg, abs-in, abs-out, abs-fits, mul-le, fit-in, mag-in, shr-law}
+use Rattle.rounding.proofs.Lin.{up, dn, add-law, sub-law', up-neg, dn-neg, abs-in, abs-out, abs-fits, mul-le, fit-in, shr-law}
 use Rattle.numbers.specs.Integers.{roundShiftOf}
 use Rattle.numbers.proofs.Integers.{round-is}
 use Rattle.decoder.specs.Formats.{withinZ, levelLow, levelHigh, levelFit, levelQ15}

@@ -1,16 +1,15 @@
 -- `pll_q15::guard_fits` meets its contract: gain * 2^30 + imax fits exactly when gain + floor(imax / 2^30) is at least -2^33 and below 2^33. Assumes nothing.
-use Prim.Native.Nat.{_^_, _+_, _*_, _≤_}
-use mathlib.Core.Path.{_≡_, refl, sym, _∙_}
+use Prim.Native.Nat.{_^_, _+_, _≤_}
+use mathlib.Core.Path.{_≡_, refl, sym}
 use mathlib.Core.Bool.{Bool, true, false, _&&_, and-false}
 use native.Mathlib.Omega.{arith}
-use native.Mathlib.Nat.{lt-of-le-of-lt}
 use lib.Dec.{lit<}
 use lib.IntN.{ℤ, pos, negsuc, _+ℤ_, _-ℤ_, _*ℤ_, *ℤ-comm}
-use lib.Signed.{ltZ, leZ, shrZ, mag-shr}
+use lib.Signed.{ltZ, leZ, shrZ}
 use mir.Syntax.{w64}
 use mir.Val.{SFits, toZ, ofZ}
 use mir.Facts.{toZ-ofZ}
-use Rattle.rounding.proofs.Lin.{up, dn, add-law, sub-law', up-mul, dn-mul, shr-law, fit-in, fit-out, lt-yes, lt-no, le-yes, le-no, le-yes-in, le-no-in}
+use Rattle.rounding.proofs.Lin.{up, dn, add-law, sub-law', up-mul, dn-mul, shr-law, fit-in, fit-out, lt-yes, lt-no, le-yes, le-no, le-yes-in, le-no-in, shr-fits}
 use Rattle.decoder.specs.Formats.{fits64, guardOf}
 use Rattle.decoder.proofs.pll_q15.guard_fits.Statement.{statement}
 use Rattle.decoder.proofs.pll_q15.guard_fits.Tie as tie
@@ -78,7 +77,7 @@ module _ (gain imax : ℤ) where
 
 -- the upper part of imax, read back
 part-is : (c : tie.Start) → toZ w64 (ofZ w64 (shrZ (toZ w64 (ofZ w64 (c .args .imax))) (2 ^ 30))) ≡ shrZ (c .args .imax) (2 ^ 30)
-part-is c = rw (toZ-ofZ (c .fits .imax)) (toZ-ofZ (record { sfits = lt-of-le-of-lt (mag-shr (c .args .imax) (2 ^ 30)) (c .fits .imax .sfits) }))
+part-is c = rw (toZ-ofZ (c .fits .imax)) (toZ-ofZ (shr-fits (2 ^ 30) (c .fits .imax)))
 
 sub-if1 : tie.Need-sub-if1
 sub-if1 c = top-fits (c .args .gain) (c .args .imax) (c .fits .imax) (toZ-ofZ (c .fits .gain)) (part-is c)
