@@ -1,9 +1,9 @@
 pub mod Loops
+pub mod Blocks
 pub mod Ranges
 pub mod Level
 pub mod Fit
 pub mod Held
 pub mod Step
-pub mod BlockQ15
 pub mod Scaled
 pub mod Fresh
