@@ -1,7 +1,7 @@
 -- A fit Q15 record: the tests one by one, and that a step keeps it fit, for any table. Assumes nothing.
 use Prim.Native.Nat.{ℕ, _*_, _+_, _^_, _<_}
-use mathlib.Core.Path.{_≡_, refl}
-use mathlib.Core.Bool.{true, _&&_, false≢true}
+use mathlib.Core.Path.{_≡_}
+use mathlib.Core.Bool.{true, false≢true}
 use mathlib.Core.List.{List}
 use lib.Dec.{T}
 use lib.IntN.{ℤ, pos, negsuc, negℤ, natAbs, _*ℤ_}

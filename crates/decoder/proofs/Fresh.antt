@@ -1,23 +1,22 @@
 -- Construction gives a fit Q15 record: its gains are not negative, beta is at most 1, and the guards were tested. Assumes nothing.
 use Prim.Native.Nat.{ℕ, _*_, _^_}
-use mathlib.Core.Path.{_≡_, refl, sym, ap, _∙_, subst}
+use mathlib.Core.Path.{_≡_, refl, sym, _∙_, subst}
 use mathlib.Core.Bool.{Bool, true, false, not, _&&_, and-false, false≢true}
 use native.Mathlib.Omega.{arith}
 use native.Mathlib.Nat.{zero-mul, mul-one}
 use borrow.Author.Tests.{eqb-true}
 use lib.Dec.{T, eqb}
-use lib.IntN.{ℤ, pos, negsuc, negℤ}
+use lib.IntN.{ℤ, pos, negℤ}
 use lib.Signed.{leZ}
 use lib.Ieee.{Float, nan, inf, fin, binary32, binary64, ofBits, up, down, round, mul, div, lt, le, eq}
 use lib.Ieee.Scale.{finite}
 use lib.Ieee.Fits.{down-pos}
-use Rattle.rounding.proofs.Lin.{dn, up-neg, dn-neg, le-yes}
+use Rattle.rounding.proofs.Lin.{up-neg, dn-neg, le-yes}
 use Rattle.rounding.proofs.Finite.{round-zero, eq-zero}
 use Rattle.numbers.specs.Floats.{toFormat, inRange}
-use Rattle.numbers.specs.Scaled.{scaledOf}
 use Rattle.phase.specs.Oscillator.{goodRate}
 use Rattle.decoder.specs.Machine.{Pll}
-use Rattle.decoder.specs.Formats.{withinZ, levelLow, levelHigh, fits64, guardOf, fitQ15}
+use Rattle.decoder.specs.Formats.{withinZ, fits64, guardOf, fitQ15}
 use Rattle.decoder.specs.Gains.{Gains, Built, made, refused, unless, following, nought, pi, root2, positive, narrows, allNarrow, gainsOf, commonOf, allHold, guarded, alive, freshQ15, buildQ15, newQ15Of}
 use Rattle.decoder.proofs.Ranges.{and-out, within-in}
 use Rattle.decoder.proofs.Fit.{fit-in}

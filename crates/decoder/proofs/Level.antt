@@ -1,24 +1,28 @@
 -- The Q15 level: no step of its arithmetic passes an i64, and it keeps its bounds, for any beta in 0..=2^31 and any q of at most 2^30 in size. Assumes nothing.
 use Prim.Native.Nat.{ℕ, suc, _+_, _*_, _^_, _≤_, _<_}
-use mathlib.Core.Path.{_≡_, refl, sym, ap, _∙_}
+use mathlib.Core.Path.{_≡_}
 use mathlib.Core.Bool.{true, false≢true}
 use native.Mathlib.Omega.{arith}
 use native.Mathlib.Nat.{mul-le-mul-right}
 use lib.Dec.{lit<}
 use lib.IntN.{ℤ, pos, negsuc, negℤ, natAbs, _+ℤ_, _-ℤ_, _*ℤ_}
-use lib.Signed.{mag, leZ, shrZ}
+use lib.Signed.{shrZ}
 use mir.Syntax.{w64}
 use mir.Val.{SFits}
-use Rattle.rounding.proofs.Lin.{up, dn, add-law, sub-law', up-neg, dn-neg, abs-in, abs-out, abs-fits, mul-le, fit-in, mag-in, shr-law}
+use Rattle.rounding.proofs.Lin.{up, dn, add-law, sub-law', up-neg, dn-neg, abs-in, abs-out, abs-fits, mul-le, fit-in, shr-law}
 use Rattle.numbers.specs.Integers.{roundShiftOf}
 use Rattle.numbers.proofs.Integers.{round-is}
 use Rattle.decoder.specs.Formats.{withinZ, levelLow, levelHigh, levelFit, levelQ15}
 use Rattle.decoder.proofs.Ranges.{and-out, within-out, within-in}
 
+-- z keeps the level's bounds
+abbrev In : ℤ → Type 0
+In z = (dn z ≤ up z + 2305843010287435776) × (up z ≤ 2305843010287435775 + dn z)
+
 -- level + b * d for a d that leads from the rounded level r to q
-module _ (level q r : ℤ) (b : ℕ) (b-le : b ≤ 2 ^ 31) (l-low : dn level ≤ up level + 2305843010287435776) (l-high : up level ≤ 2305843010287435775 + dn level) (q-le : up q + dn q ≤ 2 ^ 30)
+module _ (level q r : ℤ) (b : ℕ) (b-le : b ≤ 2 ^ 31) (l-in : In level) (q-le : up q + dn q ≤ 2 ^ 30)
     (r-low : up r * 2 ^ 31 + dn level ≤ up level + 2 ^ 30 + dn r * 2 ^ 31) (r-high : up level + 2 ^ 30 + dn r * 2 ^ 31 < up r * 2 ^ 31 + dn level + 2 ^ 31) where
-  by-sign : (d : ℤ) → up d + (dn q + up r) ≡ up q + dn r + dn d → (up (level +ℤ pos b *ℤ d) ≤ 2305843010287435775 + dn (level +ℤ pos b *ℤ d)) × (dn (level +ℤ pos b *ℤ d) ≤ up (level +ℤ pos b *ℤ d) + 2305843010287435776)
+  by-sign : (d : ℤ) → up d + (dn q + up r) ≡ up q + dn r + dn d → In (level +ℤ pos b *ℤ d)
   by-sign (pos e) h =
       let t = mul-le-mul-right e b-le in
       let s = add-law level (pos (b * e)) in
@@ -35,8 +39,8 @@ module _ (beta level q : ℤ) (fit : levelFit beta level ≡ true) (small : natA
   bounds : (withinZ (pos 0) (pos (2 ^ 31)) beta ≡ true) × (withinZ levelLow levelHigh level ≡ true)
   bounds = and-out (withinZ (pos 0) (pos (2 ^ 31)) beta) (withinZ levelLow levelHigh level) fit
 
-  level-in : (up levelLow + dn level ≤ up level + dn levelLow) × (up level + dn levelHigh ≤ up levelHigh + dn level)
-  level-in = within-out levelLow levelHigh level (bounds .1)
+  level-in : In level
+  level-in = let w = within-out levelLow levelHigh level (bounds .1) in (omega arith, omega arith)
 
   abbrev raised : ℤ
   raised = level +ℤ pos (2 ^ 30)
@@ -72,15 +76,14 @@ module _ (beta level q : ℤ) (fit : levelFit beta level ≡ true) (small : natA
   pub m-fits : SFits w64 (beta *ℤ (q -ℤ roundShiftOf level 31))
   m-fits = rw rounded-is (abs-fits w64 (beta *ℤ (q -ℤ r)) (mul-le beta (q -ℤ r) (2 ^ 31) (2 ^ 31) beta-le d-le) (lit< tt))
 
-  kept : (up (levelQ15 beta level q) ≤ 2305843010287435775 + dn (levelQ15 beta level q)) × (dn (levelQ15 beta level q) ≤ up (levelQ15 beta level q) + 2305843010287435776)
+  kept : In (levelQ15 beta level q)
   unfolding levelQ15
   kept = rw rounded-is (go beta (bounds .0))
     where
-      go : (b : ℤ) → withinZ (pos 0) (pos (2 ^ 31)) b ≡ true → (up (level +ℤ b *ℤ (q -ℤ r)) ≤ 2305843010287435775 + dn (level +ℤ b *ℤ (q -ℤ r))) × (dn (level +ℤ b *ℤ (q -ℤ r)) ≤ up (level +ℤ b *ℤ (q -ℤ r)) + 2305843010287435776)
+      go : (b : ℤ) → withinZ (pos 0) (pos (2 ^ 31)) b ≡ true → In (level +ℤ b *ℤ (q -ℤ r))
       go (pos n) h =
-          let l = level-in in
           let w = within-out (pos 0) (pos (2 ^ 31)) (pos n) h in
-          by-sign level q r n (omega arith) (omega arith) (omega arith) (omega (arith, abs-out q)) (r-law .0) (r-law .1) (q -ℤ r) (omega (arith, sub-law' q r))
+          by-sign level q r n (omega arith) level-in (omega (arith, abs-out q)) (r-law .0) (r-law .1) (q -ℤ r) (omega (arith, sub-law' q r))
       go (negsuc n) h = absurd (false≢true h)
 
   pub next-within : withinZ levelLow levelHigh (levelQ15 beta level q) ≡ true

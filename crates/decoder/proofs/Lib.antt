@@ -1,12 +1,12 @@
 pub mod Loops
 pub mod Scan
 pub mod Steps
+pub mod Blocks
 pub mod Ranges
 pub mod Level
 pub mod Fit
 pub mod Held
 pub mod Step
-pub mod BlockQ15
 pub mod Scaled
 pub mod Fresh
 pub mod History

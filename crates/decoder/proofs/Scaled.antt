@@ -1,12 +1,12 @@
 -- Gains that are not negative stay so as Q15 numbers, and one of at most 1 is at most 2^31 in 2^-31. Assumes nothing.
 use Prim.Native.Nat.{ℕ, zero, suc, _+_, _*_, _/_, _^_, _≤_, _<_, min}
-use mathlib.Core.Path.{_≡_, refl, sym, ap, _∙_, subst}
+use mathlib.Core.Path.{_≡_, refl, sym, subst}
 use mathlib.Core.Bool.{Bool, true, false, not, _&&_, _||_, cond, true≢false, false≢true}
 use native.Mathlib.Omega.{arith}
 use native.Mathlib.Nat.{mul-pos, mul-le-mul-right, lt-of-not-le}
 use borrow.Author.Tests.{ltb-true, eqb-true}
 use lib.Dec.{T, ltb, eqb, lit<}
-use lib.IntN.{ℤ, pos, negsuc}
+use lib.IntN.{pos, negsuc}
 use lib.Signed.{leZ}
 use lib.Ieee.{Float, nan, inf, fin, Format, prec, emax, low, binary64, up, down, odd, units, round, sum, add, mul, div, le, lt, toSigned}
 use lib.Ieee.Bits.{is-true}

@@ -2,10 +2,18 @@
 // without the stop that a fit level never reaches. The correction's rounding stops at the largest
 // i64, as the plain one does.
 use crate::lengths::block_lengths;
-use crate::parts_q15::{advanced, level_after, selected, ReplyQ15, StepQ15};
-use crate::pll_q15::{is_fit, StereoPllQ15};
-use blocks::answer::{is_accepted, Answer};
-use phase::lookup::{interp_q15, sine_at, sine_at_twice};
+use crate::parts_q15::ReplyQ15;
+use crate::parts_q15::StepQ15;
+use crate::parts_q15::advanced;
+use crate::parts_q15::level_after;
+use crate::parts_q15::selected;
+use crate::pll_q15::StereoPllQ15;
+use crate::pll_q15::is_fit;
+use blocks::answer::Answer;
+use blocks::answer::is_accepted;
+use phase::lookup::interp_q15;
+use phase::lookup::sine_at;
+use phase::lookup::sine_at_twice;
 ghost use mathlib.Core.Path.{_≡_};
 ghost use mathlib.Core.Bool.{true};
 ghost use Prim.Native.Nat.{_≤_, _^_};
@@ -100,9 +108,18 @@ pub fn block(
     ensures { λ r. ⌜ record { said = says (r .answer); sum = now (sum .exit); difference = now (difference .exit); pll = pllQ15 (r .decoder) } ≡ blockOf q15 (pllQ15 d) (now (table .entry)) (now (mpx .entry)) (now (pilot .entry)) (now (sum .entry)) (now (difference .entry)) ⌝ }
 {
     if !is_fit(d) {
-        return ReplyQ15 { answer: Answer::Unfit, decoder: d };
+        return ReplyQ15 {
+            answer: Answer::Unfit,
+            decoder: d,
+        };
     }
-    let answer = block_lengths(table.len(), mpx.len(), pilot.len(), sum.len(), difference.len());
+    let answer = block_lengths(
+        table.len(),
+        mpx.len(),
+        pilot.len(),
+        sum.len(),
+        difference.len(),
+    );
     if !is_accepted(answer) {
         return ReplyQ15 { answer, decoder: d };
     }

@@ -3,7 +3,8 @@
 use crate::parts_f32::moved;
 use crate::pll_q15::StereoPllQ15;
 use blocks::answer::Answer;
-use numbers::fixed::{low32, round_shift};
+use numbers::fixed::low32;
+use numbers::fixed::round_shift;
 ghost use mathlib.Core.Path.{_≡_};
 ghost use mathlib.Core.Bool.{cond, true};
 ghost use mathlib.Core.List.{List};

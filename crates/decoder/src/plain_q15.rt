@@ -1,10 +1,20 @@
 // The plain Q15 block: document 01's steps, one after the other (reference/stereo.rs).
 use crate::lengths::block_lengths;
-use crate::parts_q15::{advanced, level_after, selected, ReplyQ15, StepQ15};
-use crate::pll_q15::{is_fit, StereoPllQ15};
-use blocks::answer::{is_accepted, Answer};
-use numbers::fixed::{q15_mul, q15_product, round_shift};
-use phase::lookup::{cos_q15, sine_at, sine_at_twice};
+use crate::parts_q15::ReplyQ15;
+use crate::parts_q15::StepQ15;
+use crate::parts_q15::advanced;
+use crate::parts_q15::level_after;
+use crate::parts_q15::selected;
+use crate::pll_q15::StereoPllQ15;
+use crate::pll_q15::is_fit;
+use blocks::answer::Answer;
+use blocks::answer::is_accepted;
+use numbers::fixed::q15_mul;
+use numbers::fixed::q15_product;
+use numbers::fixed::round_shift;
+use phase::lookup::cos_q15;
+use phase::lookup::sine_at;
+use phase::lookup::sine_at_twice;
 ghost use mathlib.Core.Path.{_≡_};
 ghost use mathlib.Core.Bool.{true};
 ghost use Prim.Native.Nat.{_≤_, _^_};
@@ -78,9 +88,18 @@ pub fn block(
     ensures { λ r. ⌜ record { said = says (r .answer); sum = now (sum .exit); difference = now (difference .exit); pll = pllQ15 (r .decoder) } ≡ blockOf q15 (pllQ15 d) (now (table .entry)) (now (mpx .entry)) (now (pilot .entry)) (now (sum .entry)) (now (difference .entry)) ⌝ }
 {
     if !is_fit(d) {
-        return ReplyQ15 { answer: Answer::Unfit, decoder: d };
+        return ReplyQ15 {
+            answer: Answer::Unfit,
+            decoder: d,
+        };
     }
-    let answer = block_lengths(table.len(), mpx.len(), pilot.len(), sum.len(), difference.len());
+    let answer = block_lengths(
+        table.len(),
+        mpx.len(),
+        pilot.len(),
+        sum.len(),
+        difference.len(),
+    );
     if !is_accepted(answer) {
         return ReplyQ15 { answer, decoder: d };
     }

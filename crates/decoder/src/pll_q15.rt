@@ -1,6 +1,9 @@
 // The Q15 decoder's record: construction, the calls that only set fields, and the read-outs.
-use crate::gains::{common, Checked, LoopGains};
-use numbers::float::{floor_f64, i64_to_f64};
+use crate::gains::Checked;
+use crate::gains::LoopGains;
+use crate::gains::common;
+use numbers::float::floor_f64;
+use numbers::float::i64_to_f64;
 use numbers::scale::floor_scaled;
 ghost use mathlib.Core.Path.{_≡_};
 ghost use mathlib.Core.Bool.{true, false};
@@ -10,7 +13,12 @@ ghost use lib.Ieee.{binary64};
 ghost use Rattle.decoder.specs.Machine.{enabledOf, resetOf};
 ghost use Rattle.decoder.specs.Formats.{withinZ, fits64, guardOf, fitQ15};
 ghost use Rattle.decoder.specs.Gains.{
-    power, freshQ15, holds64, allHold, buildQ15, newQ15Of
+  power,
+  freshQ15,
+  holds64,
+  allHold,
+  buildQ15,
+  newQ15Of,
 };
 ghost use Rattle.decoder.specs.Records.{gains, pllQ15, saysQ15};
 

@@ -4,15 +4,15 @@ use Prim.Native.Nat.{ℕ, zero, suc, _+_, _-_, _*_, _/_, _%_, _^_, _<_, _≤_}
 use mathlib.Core.Path.{_≡_, refl, sym, ap, _∙_, subst}
 use mathlib.Core.Bool.{Bool, true, false, cond, true≢false, false≢true}
 use native.Mathlib.Omega.{arith}
-use native.Mathlib.Nat.{div-add-mod', mod-lt, suc-mul, mul-le-mul, mul-zero, not-le-of-lt}
+use native.Mathlib.Nat.{div-add-mod', mod-lt, suc-mul, mul-le-mul, mul-zero, not-le-of-lt, lt-of-le-of-lt}
 use borrow.Author.Tests.{ltb-true, ltb-false, leb-true, leb-false}
-use lib.Dec.{T, ltb}
+use lib.Dec.{T, ltb, leb}
 use lib.IntN.{ℤ, pos, negsuc, negℤ, natAbs, subℕ, _+ℤ_, _-ℤ_, _*ℤ_}
-use lib.Signed.{mag, ltZ, leZ, _≤ℤ_, shrZ, natAbs-le}
+use lib.Signed.{mag, ltZ, leZ, _≤ℤ_, shrZ, mag-shr, natAbs-le}
 use lib.Ieee.Bits.{is-true}
 use mir.Syntax.{Width}
 use mir.Val.{SFits, hbits, toZ, ofZ}
-use mir.Facts.{toZ-ofZ}
+use mir.Facts.{sfits-widen, toZ-ofZ}
 
 abbrev pub up : ℤ → ℕ
 up (pos n) = n
@@ -193,3 +193,11 @@ dn-mul k (negsuc n) = dn-neg (pos (k * suc n))
 -- ---- a signed number that fits, written to bits and read back. `c .f .ok`, `c .struct-told .given ..` and `c .f-arg .given` are such bounds on `mag`
 pub back : (w : Width) (z : ℤ) → mag z < 2 ^ hbits w → toZ w (ofZ w z) ≡ z
 back w z h = toZ-ofZ (record { sfits = h })
+
+-- a number that fits, cast to a wider type w′: `widened w′ tt f`
+pub widened : (w′ : Width) {w : Width} {z : ℤ} → T (leb (hbits w) (hbits w′)) → SFits w z → toZ w′ (ofZ w′ (toZ w (ofZ w z))) ≡ z
+widened w′ t f = rw (toZ-ofZ f) (toZ-ofZ (sfits-widen t f))
+
+-- a quotient rounded down fits as the number does
+pub shr-fits : {w : Width} {z : ℤ} (m : ℕ) → SFits w z → SFits w (shrZ z m)
+shr-fits {w} {z} m f = record { sfits = lt-of-le-of-lt (mag-shr z m) (f .sfits) }

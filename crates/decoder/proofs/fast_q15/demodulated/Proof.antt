@@ -1,16 +1,15 @@
 -- `fast_q15::demodulated` meets its contract: a product of at most 2^30 in size, rounded, is at least -2^15, so only the upper end is tested. Assumes nothing.
-use Prim.Native.Nat.{_+_, _*_, _^_, _≤_}
-use mathlib.Core.Path.{_≡_, refl, sym, ap, _∙_}
-use mathlib.Core.Bool.{Bool, true, false, cond}
+use Prim.Native.Nat.{_^_, _≤_}
+use mathlib.Core.Path.{_≡_, _∙_}
+use mathlib.Core.Bool.{Bool, false, cond}
 use native.Mathlib.Omega.{arith}
-use native.Mathlib.Nat.{lt-of-le-of-lt}
 use lib.Dec.{lit<}
 use lib.IntN.{ℤ, pos, negsuc, natAbs, _+ℤ_, _*ℤ_}
-use lib.Signed.{ltZ, shrZ, mag-shr}
+use lib.Signed.{ltZ, shrZ}
 use mir.Syntax.{w16, w32}
 use mir.Val.{SFits, toZ, ofZ}
 use mir.Facts.{sfits-widen, toZ-ofZ}
-use Rattle.rounding.proofs.Lin.{up, dn, add-law, abs-out, mul-le, fits-abs, abs-fits, fit-in, shr-law, lt-no, lt-no-in}
+use Rattle.rounding.proofs.Lin.{add-law, abs-out, mul-le, fits-abs, abs-fits, fit-in, shr-law, lt-no, lt-no-in, widened, shr-fits}
 use Rattle.numbers.specs.Integers.{sat16Of, roundShiftOf}
 use Rattle.numbers.proofs.Integers.{round-is}
 use Rattle.decoder.proofs.fast_q15.demodulated.Statement.{statement}
@@ -34,7 +33,7 @@ module _ (x s : ℤ) (f : SFits w16 x) (g : SFits w32 s) (small : natAbs s ≤ 2
   x-fits = rw (toZ-ofZ f) (sfits-widen tt f)
 
   x-is : X ≡ x
-  x-is = toZ-ofZ x-fits ∙ toZ-ofZ f
+  x-is = widened w32 tt f
 
   product-le : natAbs (x *ℤ s) ≤ 2 ^ 30
   product-le = mul-le x s (2 ^ 15) (2 ^ 15) (fits-abs f) small
@@ -52,7 +51,7 @@ module _ (x s : ℤ) (f : SFits w16 x) (g : SFits w32 s) (small : natAbs s ≤ 2
   Y = of (shrZ (of (of (X *ℤ of s) +ℤ pos (2 ^ 14))) (2 ^ 15))
 
   y-is : Y ≡ y
-  y-is = rw (toZ-ofZ raised-fits, product-is) (toZ-ofZ (record { sfits = lt-of-le-of-lt (mag-shr raised (2 ^ 15)) ((rw product-is at raised-fits) .sfits) }))
+  y-is = rw (toZ-ofZ raised-fits, product-is) (toZ-ofZ (shr-fits (2 ^ 15) (rw product-is at raised-fits)))
 
   rounded-is : roundShiftOf (x *ℤ s) 15 ≡ y
   rounded-is = let p = product-le in round-is (x *ℤ s) 15 (λ e. omega arith) (lit< tt) (omega (arith, abs-out (x *ℤ s)))

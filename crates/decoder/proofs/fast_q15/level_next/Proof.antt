@@ -1,13 +1,10 @@
-use mathlib.Core.Path.{_≡_, sym, _∙_}
-use native.Mathlib.Nat.{lt-of-le-of-lt}
-use Prim.Native.Nat.{ℕ, _^_}
+use mathlib.Core.Path.{sym, _∙_}
+use Prim.Native.Nat.{_^_}
 use lib.IntN.{ℤ, pos, _+ℤ_}
-use lib.Signed.{shrZ, mag-shr}
 use mir.Syntax.{w64}
-use mir.Val.{SFits, toZ, ofZ}
+use mir.Val.{SFits}
 use mir.Facts.{toZ-ofZ}
-use Rattle.rounding.proofs.Lin.{back}
-use Rattle.numbers.specs.Integers.{roundShiftOf}
+use Rattle.rounding.proofs.Lin.{back, shr-fits}
 use Rattle.decoder.proofs.Level.{raised-fits, rounded-is}
 use Rattle.decoder.proofs.fast_q15.level_next.Statement.{statement}
 use Rattle.decoder.proofs.fast_q15.level_next.Tie as tie
@@ -15,17 +12,13 @@ use Rattle.decoder.proofs.fast_q15.level_next.Tie as tie
 fits : (c : tie.Start) → SFits w64 (c .args .level +ℤ pos (2 ^ 30))
 fits c = raised-fits (c .args .beta) (c .args .level) (c .args .q) (c .pre .0) (c .pre .1)
 
--- a shifted number fits as the number does
-shifted : (z : ℤ) (m : ℕ) → SFits w64 z → toZ w64 (ofZ w64 (shrZ z m)) ≡ shrZ z m
-shifted z m f = toZ-ofZ (record { sfits = lt-of-le-of-lt (mag-shr z m) (f .sfits) })
-
 add-level-after : tie.Need-add-level-after
 add-level-after c = rw (toZ-ofZ (c .fits .level)) (fits c)
 
 level-after-requires : tie.Need-level-after-requires
 level-after-requires c κs =
     rw (toZ-ofZ (c .fits .beta), toZ-ofZ (c .fits .level), toZ-ofZ (c .fits .q), toZ-ofZ (fits c))
-    (c .pre .0, (c .pre .1, shifted (c .args .level +ℤ pos (2 ^ 30)) (2 ^ 31) (fits c) ∙ sym (rounded-is (c .args .beta) (c .args .level) (c .args .q) (c .pre .0) (c .pre .1))))
+    (c .pre .0, (c .pre .1, toZ-ofZ (shr-fits (2 ^ 31) (fits c)) ∙ sym (rounded-is (c .args .beta) (c .args .level) (c .args .q) (c .pre .0) (c .pre .1))))
 
 returns : tie.Need-returns
 returns c =

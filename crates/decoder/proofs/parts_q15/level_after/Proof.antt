@@ -1,5 +1,4 @@
 -- `parts_q15::level_after` meets its contract. Each `rw` takes what the machine holds of a number to the number, from the innermost outwards. Assumes nothing.
-use mathlib.Core.Path.{_≡_}
 use lib.IntN.{_-ℤ_, _*ℤ_}
 use mir.Syntax.{w64}
 use mir.Val.{SFits}

@@ -1,6 +1,7 @@
 use borrow.Author.Needs.{needs}
 use Rattle.blocks.specs.Answer.{says}
-use Rattle.decoder.proofs.BlockQ15.{unfit, wrong-length, runs, ran}
+use Rattle.decoder.specs.Formats.{q15}
+use Rattle.decoder.proofs.Blocks.{unfit, wrong-length, runs, ran}
 use Rattle.decoder.proofs.plain_q15.block.Statement.{statement}
 use Rattle.decoder.proofs.plain_q15.block.Tie as tie
 
@@ -8,7 +9,7 @@ is-fit-requires : tie.Need-is-fit-requires
 is-fit-requires c κs = search needs
 
 returns : tie.Need-returns
-returns c = unfit _ _ _ _ _ _ (c .before .is-fit .ensures) (c .if1 .taken)
+returns c = unfit q15 _ _ _ _ _ _ (c .before .is-fit .ensures) (c .if1 .taken)
 
 block-lengths-requires : tie.Need-block-lengths-requires
 block-lengths-requires c κs = search needs
@@ -20,7 +21,7 @@ returns-2 : tie.Need-returns-2
 returns-2 c =
     let l = c .before .before in
     let f = l .before in
-    wrong-length _ _ _ _ _ _ (f .before .is-fit .ensures) (f .if1 .left) (says (l .block-lengths .result)) (l .block-lengths .ensures) (c .before .is-accepted .ensures) (c .if2 .taken)
+    wrong-length q15 _ _ _ _ _ _ (f .before .is-fit .ensures) (f .if1 .left) (says (l .block-lengths .result)) (l .block-lengths .ensures) (c .before .is-accepted .ensures) (c .if2 .taken)
 
 run-requires : tie.Need-run-requires
 run-requires c κs =
@@ -28,7 +29,7 @@ run-requires c κs =
     let l = e .before .before in
     let f = l .before in
     let a = f .before .before .args in
-    runs (a .table .now) (a .mpx .now) (a .pilot .now) (a .sum .now) (a .difference .now) _ (f .before .is-fit .ensures) (f .if1 .left) (says (l .block-lengths .result)) (l .block-lengths .ensures) (e .before .is-accepted .ensures) (e .if2 .left)
+    runs q15 (a .table .now) (a .mpx .now) (a .pilot .now) (a .sum .now) (a .difference .now) _ (f .before .is-fit .ensures) (f .if1 .left) (says (l .block-lengths .result)) (l .block-lengths .ensures) (e .before .is-accepted .ensures) (e .if2 .left)
 
 same-length : tie.Need-same-length
 same-length c = search needs
@@ -42,7 +43,7 @@ returns-3 c =
     let e = r .before .before .before in
     let l = e .before .before in
     let f = l .before in
-    ran _ _ _ _ _ _ (f .before .is-fit .ensures) (f .if1 .left) (says (l .block-lengths .result)) (l .block-lengths .ensures) (e .before .is-accepted .ensures) (e .if2 .left) (r .run .ensures)
+    ran q15 _ _ _ _ _ _ (f .before .is-fit .ensures) (f .if1 .left) (says (l .block-lengths .result)) (l .block-lengths .ensures) (e .before .is-accepted .ensures) (e .if2 .left) (r .run .ensures)
 
 pub block-spec : {M : Type 1} → statement M
 block-spec =

@@ -1,14 +1,14 @@
 use borrow.Author.Needs.{needs}
 use mathlib.Core.Path.{_≡_, refl, sym, ap, _∙_}
-use mathlib.Core.Bool.{Bool, true, false, not, _&&_, cond, and-false}
+use mathlib.Core.Bool.{Bool, true, false, not, _&&_, cond}
 use lib.IntN.{ℤ, pos, negsuc}
-use Prim.Native.Nat.{ℕ, zero, suc}
+use Prim.Native.Nat.{zero, suc}
 use mir.Syntax.{w64}
 use mir.Val.{toZ, ofZ}
 use mir.Facts.{toZ-ofZ}
 use Rattle.decoder.specs.Machine.{Pll}
 use Rattle.decoder.specs.Formats.{fits64, guardOf}
-use Rattle.decoder.specs.Gains.{Gains, Built, made, refused, unless, allHold, guarded, isZero, alive, freshQ15, buildQ15}
+use Rattle.decoder.specs.Gains.{Gains, made, refused, unless, allHold, guarded, isZero, alive, freshQ15, buildQ15}
 use Rattle.decoder.specs.Records.{gains, pllQ15}
 use Rattle.decoder.proofs.Held.{Held, held}
 use Rattle.decoder.proofs.pll_q15.build.Statement.{statement}

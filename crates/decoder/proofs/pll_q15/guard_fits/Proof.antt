@@ -1,16 +1,15 @@
 -- `pll_q15::guard_fits` meets its contract: gain * 2^30 + imax fits exactly when gain + floor(imax / 2^30) is at least -2^33 and below 2^33. Assumes nothing.
 use Prim.Native.Nat.{_^_, _+_, _*_, _≤_}
-use mathlib.Core.Path.{_≡_, refl, sym, _∙_}
-use mathlib.Core.Bool.{Bool, true, false, _&&_, and-false}
+use mathlib.Core.Path.{_≡_, refl, sym}
+use mathlib.Core.Bool.{Bool, true, false, and-false, and-true}
 use native.Mathlib.Omega.{arith}
-use native.Mathlib.Nat.{lt-of-le-of-lt}
 use lib.Dec.{lit<}
 use lib.IntN.{ℤ, pos, negsuc, _+ℤ_, _-ℤ_, _*ℤ_, *ℤ-comm}
-use lib.Signed.{ltZ, leZ, shrZ, mag-shr}
+use lib.Signed.{ltZ, leZ, shrZ}
 use mir.Syntax.{w64}
 use mir.Val.{SFits, toZ, ofZ}
 use mir.Facts.{toZ-ofZ}
-use Rattle.rounding.proofs.Lin.{up, dn, add-law, sub-law', up-mul, dn-mul, shr-law, fit-in, fit-out, lt-yes, lt-no, le-yes, le-no, le-yes-in, le-no-in}
+use Rattle.rounding.proofs.Lin.{up, dn, add-law, sub-law', up-mul, dn-mul, shr-law, fit-in, fit-out, lt-yes, lt-no, le-yes, le-no, le-yes-in, le-no-in, shr-fits}
 use Rattle.decoder.specs.Formats.{fits64, guardOf}
 use Rattle.decoder.proofs.pll_q15.guard_fits.Statement.{statement}
 use Rattle.decoder.proofs.pll_q15.guard_fits.Tie as tie
@@ -37,48 +36,42 @@ module _ (gain imax : ℤ) where
   guard-is : guardOf gain imax ≡ G
   guard-is = rw (*ℤ-comm gain (pos (2 ^ 30)))
 
+  guard-law : up G + (2 ^ 30 * dn gain + dn imax) ≡ 2 ^ 30 * up gain + up imax + dn G
+  guard-law = omega (arith, add-law (pos (2 ^ 30) *ℤ gain) imax, up-mul (2 ^ 30) gain, dn-mul (2 ^ 30) gain)
+
   high : ltZ (TOP -ℤ q) gain ≡ true → leZ G MAX ≡ false
-  high h =
-      let k = shr-law imax (2 ^ 30) (lit< tt) in
-      le-no-in G MAX (omega (arith, lt-yes (TOP -ℤ q) gain h, sub-law' TOP q, add-law (pos (2 ^ 30) *ℤ gain) imax, up-mul (2 ^ 30) gain, dn-mul (2 ^ 30) gain))
+  high h = le-no-in G MAX (omega (arith, lt-yes (TOP -ℤ q) gain h, sub-law' TOP q, guard-law, shr-law imax (2 ^ 30) (lit< tt)))
 
   not-high : ltZ (TOP -ℤ q) gain ≡ false → leZ G MAX ≡ true
-  not-high h =
-      let k = shr-law imax (2 ^ 30) (lit< tt) in
-      le-yes-in G MAX (omega (arith, lt-no (TOP -ℤ q) gain h, sub-law' TOP q, add-law (pos (2 ^ 30) *ℤ gain) imax, up-mul (2 ^ 30) gain, dn-mul (2 ^ 30) gain))
+  not-high h = le-yes-in G MAX (omega (arith, lt-no (TOP -ℤ q) gain h, sub-law' TOP q, guard-law, shr-law imax (2 ^ 30) (lit< tt)))
 
   low : (t : Bool) → leZ (BOTTOM -ℤ q) gain ≡ t → leZ MIN G ≡ t
-  low true h =
-      let k = shr-law imax (2 ^ 30) (lit< tt) in
-      le-yes-in MIN G (omega (arith, le-yes (BOTTOM -ℤ q) gain h, sub-law' BOTTOM q, add-law (pos (2 ^ 30) *ℤ gain) imax, up-mul (2 ^ 30) gain, dn-mul (2 ^ 30) gain))
-  low false h =
-      let k = shr-law imax (2 ^ 30) (lit< tt) in
-      le-no-in MIN G (omega (arith, le-no (BOTTOM -ℤ q) gain h, sub-law' BOTTOM q, add-law (pos (2 ^ 30) *ℤ gain) imax, up-mul (2 ^ 30) gain, dn-mul (2 ^ 30) gain))
+  low true h = le-yes-in MIN G (omega (arith, le-yes (BOTTOM -ℤ q) gain h, sub-law' BOTTOM q, guard-law, shr-law imax (2 ^ 30) (lit< tt)))
+  low false h = le-no-in MIN G (omega (arith, le-no (BOTTOM -ℤ q) gain h, sub-law' BOTTOM q, guard-law, shr-law imax (2 ^ 30) (lit< tt)))
 
-  -- Y, H, Z are what the machine holds of gain, of the upper part of imax, and of the difference
+  -- Y and H are what the machine holds of gain and of the upper part of imax
   module _ (f : SFits w64 imax) {Y H : ℤ} (y : Y ≡ gain) (h : H ≡ q) where
     q-in : (up q ≤ dn q + 2 ^ 33) × (dn q ≤ up q + 2 ^ 33)
     q-in = let k = shr-law imax (2 ^ 30) (lit< tt) in let i = fit-out f in (omega arith, omega arith)
 
+    end-fits : (z : ℤ) → up z ≤ 2 ^ 33 → dn z ≤ 2 ^ 33 → SFits w64 (z -ℤ H)
+    end-fits z a b = rw h (let i = q-in in fit-in w64 (z -ℤ q) (omega (arith, sub-law' z q)) (omega (arith, sub-law' z q)))
+
     top-fits : SFits w64 (TOP -ℤ H)
-    top-fits = rw h (let i = q-in in fit-in w64 (TOP -ℤ q) (omega (arith, sub-law' TOP q)) (omega (arith, sub-law' TOP q)))
+    top-fits = end-fits TOP (omega arith) (omega arith)
 
     bottom-fits : SFits w64 (BOTTOM -ℤ H)
-    bottom-fits = rw h (let i = q-in in fit-in w64 (BOTTOM -ℤ q) (omega (arith, sub-law' BOTTOM q)) (omega (arith, sub-law' BOTTOM q)))
+    bottom-fits = end-fits BOTTOM (omega arith) (omega arith)
 
     refused : ltZ (toZ w64 (ofZ w64 (TOP -ℤ H))) Y ≡ true → false ≡ fits64 (guardOf gain imax)
     refused p = rw (guard-is, high (rw (toZ-ofZ top-fits, h, y) at p)) (sym (and-false (leZ MIN G)))
 
     judged : ltZ (toZ w64 (ofZ w64 (TOP -ℤ H))) Y ≡ false → leZ (toZ w64 (ofZ w64 (BOTTOM -ℤ H))) Y ≡ fits64 (guardOf gain imax)
-    judged p = rw (toZ-ofZ bottom-fits, h, y, guard-is, not-high (rw (toZ-ofZ top-fits, h, y) at p), low (leZ (BOTTOM -ℤ q) gain) refl) (go (leZ (BOTTOM -ℤ q) gain))
-      where
-        go : (t : Bool) → t ≡ t && true
-        go true = refl
-        go false = refl
+    judged p = rw (toZ-ofZ bottom-fits, h, y, guard-is, not-high (rw (toZ-ofZ top-fits, h, y) at p), low (leZ (BOTTOM -ℤ q) gain) refl) (sym (and-true (leZ (BOTTOM -ℤ q) gain)))
 
 -- the upper part of imax, read back
 part-is : (c : tie.Start) → toZ w64 (ofZ w64 (shrZ (toZ w64 (ofZ w64 (c .args .imax))) (2 ^ 30))) ≡ shrZ (c .args .imax) (2 ^ 30)
-part-is c = rw (toZ-ofZ (c .fits .imax)) (toZ-ofZ (record { sfits = lt-of-le-of-lt (mag-shr (c .args .imax) (2 ^ 30)) (c .fits .imax .sfits) }))
+part-is c = rw (toZ-ofZ (c .fits .imax)) (toZ-ofZ (shr-fits (2 ^ 30) (c .fits .imax)))
 
 sub-if1 : tie.Need-sub-if1
 sub-if1 c = top-fits (c .args .gain) (c .args .imax) (c .fits .imax) (toZ-ofZ (c .fits .gain)) (part-is c)

@@ -3,10 +3,8 @@ use mathlib.Core.Path.{_≡_, refl, ap, _∙_}
 use mathlib.Core.Bool.{Bool, true, false, _&&_, and-assoc}
 use native.Mathlib.Omega.{arith}
 use Prim.Native.Nat.{_^_}
-use lib.Dec.{T}
 use lib.IntN.{ℤ, pos, negℤ}
-use lib.Signed.{ltZ, leZ, nonNeg}
-use mir.Syntax.{w64}
+use lib.Signed.{ltZ, leZ}
 use mir.Facts.{toZ-ofZ}
 use Rattle.rounding.proofs.Lin.{lt-yes, lt-no, le-yes-in, le-no-in}
 use Rattle.decoder.specs.Machine.{Pll}
