@@ -27,7 +27,7 @@ pub made-out : {A : Type 0} {a : A} (t : Bool) (n : ℕ) (next : Built A) → un
 made-out true n next h = (refl, h)
 made-out false n next h = absurd (let z : _≡_ {A = ℕ} 0 1 = cc in omega arith)
 
-made-same : {A : Type 0} {a b : A} → made a ≡ made b → a ≡ b
+pub made-same : {A : Type 0} {a b : A} → made a ≡ made b → a ≡ b
 made-same h = cc
 
 -- what construction's formulas and tests say of the gains
@@ -146,6 +146,19 @@ sound pilot natural level beta rate h =
     let narrowed = made-out (allNarrow g) 6 _ (ranged .1) in
     subst Sound (made-same (narrowed .1))
     (gains-sound pilot natural level beta rate (tested-plus natural _ (moved .0)) (tested-plus level _ (levelled .0)) (plus-of-lt rate (and-out (finite rate) (lt nought rate) (rated .0) .1)) (and-out (le nought beta) _ (ranged .0)) (narrowed .0))
+
+-- the gains that were accepted passed cause 6
+pub all-narrow : (pilot natural level beta rate : Float) {g : Gains} → commonOf pilot natural level beta rate ≡ made g → allNarrow g ≡ true
+unfolding commonOf
+all-narrow pilot natural level beta rate h =
+    let g = gainsOf pilot natural level beta rate in
+    let rated = made-out (goodRate rate) 1 _ h in
+    let piloted = made-out (positive pilot && _) 2 _ (rated .1) in
+    let moved = made-out (positive natural && _) 3 _ (piloted .1) in
+    let levelled = made-out (positive level && _) 4 _ (moved .1) in
+    let ranged = made-out (inRange nought (fin false 1 (pos 0)) beta) 5 _ (levelled .1) in
+    let narrowed = made-out (allNarrow g) 6 _ (ranged .1) in
+    subst (λ (k : Gains). allNarrow k ≡ true) (made-same (narrowed .1)) (narrowed .0)
 
 -- construction
 pub fit-new : (pilot natural level beta rate : Float) (d : Pll ℤ) → newQ15Of pilot natural level beta rate ≡ made d → fitQ15 d ≡ true

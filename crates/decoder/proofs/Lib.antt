@@ -12,3 +12,4 @@ pub mod Fresh
 pub mod History
 pub mod Agreement
 pub mod LimitQ15
+pub mod LimitF32

@@ -49,7 +49,7 @@ units-plus : (f : Format) (q k : ℕ) → T (plus (units f false q k))
 unfolding units
 units-plus f q k = cond-plus (ltb (q * 2 ^ k) (2 ^ (low f + suc (emax f)))) (odd (suc (prec f)) false q k (low f)) (inf false) (odd-plus (suc (prec f)) q k (low f)) tt
 
-round-plus : (f : Format) (a c : ℕ) → T (plus (round f false a c))
+pub round-plus : (f : Format) (a c : ℕ) → T (plus (round f false a c))
 round-plus f a c = rw (round-is f false a c) (units-plus f _ _)
 
 pub mul-plus : (f : Format) (x y : Float) → T (plus x) → T (plus y) → T (plus (mul f x y))
