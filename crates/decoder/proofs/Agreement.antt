@@ -7,7 +7,7 @@ use contract.Lifetimes.{Lfts}
 use denote.Ref.{RefT}
 use Rattle.blocks.specs.Answer.{Said, accepted}
 use Rattle.decoder.specs.Machine.{Pll, Arithmetic, Blocked, blockOf, enabledOf, resetOf}
-use Rattle.decoder.specs.Calls.{Call, block, enable, disable, reset, done, callOf, machine}
+use Rattle.decoder.specs.Calls.{Call, block, enable, disable, reset, done, callOf, machine, final}
 
 -- a slice that is lent: where it lies, its ghost name, and what it holds
 abbrev pub lent : {A : Type 0} → (ℕ × ℕ) × ℕ → List A → RefT (List A)
@@ -20,7 +20,7 @@ pub record Left (A D : Type 0) : Type 0 where
   pub difference : List A
   pub decoder : D
 
--- a decoder's functions by what their contracts say of a call; `State` reads a record as the machine's state
+-- a decoder's functions by what their contracts say of a call; `state` reads a record as the machine's state
 pub record Contracts (A D : Type 0) : Type 1 where
   pub state : D → Pll A
   pub blockMay : Lfts 5 → D → RefT (List A) → RefT (List A) → RefT (List A) → RefT (List A) → RefT (List A) → Left A D → Type 0
@@ -51,6 +51,10 @@ module _ {A D : Type 0} (F : Arithmetic A) (C : Contracts A D) where
   Runs d (c ∷ cs) [] = ⊥
   Runs d (c ∷ cs) (r ∷ rs) = May d c r × Runs (r .decoder) cs rs
 
+  abbrev pub lastRecord : D → List (Left A D) → D
+  lastRecord d [] = d
+  lastRecord d (r ∷ rs) = lastRecord (r .decoder) rs
+
   -- what is compared at each call: the answer, every output sample as left, every field
   abbrev pub seen : Left A D → Blocked A
   seen r = record { said = r .said; sum = r .sum; difference = r .difference; pll = C .state (r .decoder) }
@@ -79,3 +83,10 @@ module _ {A D : Type 0} (F : Arithmetic A) (C : Contracts A D) where
         let e = one d c r (h .0) in
         ap (λ (l : List (Blocked A)). seen r ∷ l) (agree (r .decoder) cs rs (h .1))
         ∙ ap (λ (b : Blocked A). b ∷ machine F (b .pll) cs) e
+
+    -- the record that the last call left is the machine's last state
+    pub last-agrees : (d : D) (cs : List (Call A)) (rs : List (Left A D)) → Runs d cs rs → C .state (lastRecord d rs) ≡ final F (C .state d) cs
+    last-agrees d [] [] h = refl
+    last-agrees d [] (r ∷ rs) h = absurd h
+    last-agrees d (c ∷ cs) [] h = absurd h
+    last-agrees d (c ∷ cs) (r ∷ rs) h = last-agrees (r .decoder) cs rs (h .1) ∙ ap (λ (b : Blocked A). final F (b .pll) cs) (one d c r (h .0))
