@@ -13,5 +13,4 @@ pub mod History
 pub mod Agreement
 pub mod LimitQ15
 pub mod LimitF32
-pub mod DemandF32
-pub mod DemandQ15
+pub mod Demand
