@@ -14,3 +14,4 @@ pub mod Agreement
 pub mod LimitQ15
 pub mod LimitF32
 pub mod Demand
+pub mod Witness
