@@ -1,0 +1,18 @@
+-- Document 01's table holds: each row is worked out. Assumes nothing.
+use mathlib.Core.Path.{refl}
+use lib.Ieee.{ofBits, round, add, sub, mul, neg, toSigned}
+use Rattle.rounding.specs.Cut.{restOf, cutBy}
+use Rattle.numbers.specs.Integers.{sat16Of, roundShiftOf}
+use Rattle.numbers.specs.Floats.{wholeOf}
+use Rattle.numbers.specs.Scaled.{scaledOf}
+use Rattle.phase.specs.Lookup.{betweenQ15, cosQ15, cosF32}
+use Rattle.phase.specs.Correction.{correctionOf}
+use Rattle.stereo.specs.Matrix.{leftQ15, rightQ15}
+use Rattle.encode.specs.Encode.{multiplexOf}
+use Rattle.decoder.specs.Machine.{nextOf, differenceOf}
+use Rattle.decoder.specs.Formats.{levelQ15}
+use Rattle.cases.specs.Cases.{Table, cases}
+
+pub table : Table cases
+unfolding betweenQ15 cosQ15 cosF32 sat16Of roundShiftOf correctionOf scaledOf wholeOf cutBy restOf toSigned add sub mul neg round leftQ15 rightQ15 multiplexOf nextOf differenceOf levelQ15
+table = (refl, (refl, (refl, (refl, ((refl, refl), ((refl, refl), ((refl, refl), (refl, (refl, (refl, (refl, (refl, (refl, ((refl, refl), ((refl, refl), (refl, tt))))))))))))))))
