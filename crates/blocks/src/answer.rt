@@ -1,7 +1,13 @@
 // What a block answers, and the rule of the lengths.
 ghost use mathlib.Core.Path.{_≡_};
 ghost use Rattle.blocks.specs.Answer.{
-    says, accepts, firstOf, lengthRule, tableRule, inputRule, outputRule
+  says,
+  accepts,
+  firstOf,
+  lengthRule,
+  tableRule,
+  inputRule,
+  outputRule,
 };
 
 // Carried out, or turned back with the lengths at fault.

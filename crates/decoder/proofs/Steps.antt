@@ -16,19 +16,19 @@ pub record Parts {A : Type 0} (F : Arithmetic A) (t : List A) (d : Pll A) (p e l
 
 module _ {A : Type 0} (F : Arithmetic A) (t : List A) (d : Pll A) (p : A) {e level integ : A} {stereo : Bool} {phase : ℕ} (k : Parts F t d p e level integ stereo phase) where
   pub next-is : record {
-      kp = d .kp;
-      ki = d .ki;
-      imax = d .imax;
-      beta = d .beta;
-      on = d .on;
-      off = d .off;
-      step0 = d .step0;
-      phase = phase;
-      integ = integ;
-      level = level;
-      stereo = stereo;
-      enabled = d .enabled;
-    } ≡ nextOf F t d p
+    kp = d .kp;
+    ki = d .ki;
+    imax = d .imax;
+    beta = d .beta;
+    on = d .on;
+    off = d .off;
+    step0 = d .step0;
+    phase = phase;
+    integ = integ;
+    level = level;
+    stereo = stereo;
+    enabled = d .enabled;
+  } ≡ nextOf F t d p
   unfolding nextOf
   next-is = rw (k .turned, k .integrator, k .decision, k .lock, k .error)
 

@@ -1,14 +1,21 @@
 // A decoder's gains in f64, and the causes that both formats share.
 use numbers::fixed::low32;
-use numbers::float::{f64_to_f32, is_finite_f32, is_finite_f64};
+use numbers::float::f64_to_f32;
+use numbers::float::is_finite_f32;
+use numbers::float::is_finite_f64;
 use numbers::scale::floor_scaled;
 ghost use mathlib.Core.Path.{_≡_};
 ghost use Rattle.decoder.specs.Gains.{
-    gainsOf, positive, narrows, allNarrow, commonOf
+  gainsOf,
+  positive,
+  narrows,
+  allNarrow,
+  commonOf,
 };
 ghost use Rattle.decoder.specs.Records.{gains, saysCommon};
 
 pub const PI: f64 = 3.141592653589793;
+
 pub const ROOT2: f64 = 1.4142135623730951;
 
 pub struct LoopGains {
@@ -65,7 +72,9 @@ pub fn is_narrow(x: f64) -> bool
 fn are_narrow(g: LoopGains) -> bool
     ensures { λ r. ⌜ r ≡ allNarrow (gains g) ⌝ }
 {
-    is_narrow(g.kp) & (is_narrow(g.ki) & (is_narrow(g.imax) & (is_narrow(g.beta) & (is_narrow(g.on) & is_narrow(g.off)))))
+    is_narrow(g.kp)
+        & (is_narrow(g.ki)
+            & (is_narrow(g.imax) & (is_narrow(g.beta) & (is_narrow(g.on) & is_narrow(g.off)))))
 }
 
 // The causes 1 to 6, in order.

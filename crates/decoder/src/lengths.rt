@@ -1,5 +1,8 @@
 // The answer of a decoder's block by its lengths.
-use blocks::answer::{table_rule, then_input, then_output, Answer};
+use blocks::answer::Answer;
+use blocks::answer::table_rule;
+use blocks::answer::then_input;
+use blocks::answer::then_output;
 ghost use mathlib.Core.Path.{_≡_};
 ghost use Rattle.blocks.specs.Answer.{says};
 ghost use Rattle.decoder.specs.Machine.{lengthsSay};

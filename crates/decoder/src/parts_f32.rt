@@ -1,7 +1,8 @@
 // The parts of a sample's steps that the f32 loops share.
 use crate::pll_f32::StereoPllF32;
-use numbers::float::{flush_denormal, is_finite_f32};
 use blocks::answer::Answer;
+use numbers::float::flush_denormal;
+use numbers::float::is_finite_f32;
 ghost use mathlib.Core.Path.{_≡_};
 ghost use mathlib.Core.Bool.{cond};
 ghost use Prim.Native.Nat.{_+_, _%_, _^_};

@@ -1,13 +1,20 @@
 // The plain f32 block: document 01's steps, one after the other (reference/stereo.rs).
 use crate::lengths::block_lengths;
-use crate::parts_f32::{
-    demodulated, error_of, gathered, level_of, moved, stereo_of, within, ReplyF32,
-    StepF32,
-};
+use crate::parts_f32::ReplyF32;
+use crate::parts_f32::StepF32;
+use crate::parts_f32::demodulated;
+use crate::parts_f32::error_of;
+use crate::parts_f32::gathered;
+use crate::parts_f32::level_of;
+use crate::parts_f32::moved;
+use crate::parts_f32::stereo_of;
+use crate::parts_f32::within;
 use crate::pll_f32::StereoPllF32;
-use phase::correction::correction_plain;
-use phase::lookup::{cos_f32, sine_at, sine_at_twice};
 use blocks::answer::is_accepted;
+use phase::correction::correction_plain;
+use phase::lookup::cos_f32;
+use phase::lookup::sine_at;
+use phase::lookup::sine_at_twice;
 ghost use mathlib.Core.Path.{_≡_};
 ghost use lib.ListN.{length};
 ghost use Rattle.blocks.specs.Answer.{says};
@@ -84,7 +91,13 @@ pub fn block(
 ) -> ReplyF32
     ensures { λ r. ⌜ record { said = says (r .answer); sum = now (sum .exit); difference = now (difference .exit); pll = pllF32 (r .decoder) } ≡ blockOf f32 (pllF32 d) (now (table .entry)) (now (mpx .entry)) (now (pilot .entry)) (now (sum .entry)) (now (difference .entry)) ⌝ }
 {
-    let answer = block_lengths(table.len(), mpx.len(), pilot.len(), sum.len(), difference.len());
+    let answer = block_lengths(
+        table.len(),
+        mpx.len(),
+        pilot.len(),
+        sum.len(),
+        difference.len(),
+    );
     if !is_accepted(answer) {
         return ReplyF32 { answer, decoder: d };
     }

@@ -1,6 +1,9 @@
 // The f32 decoder's record: construction, the calls that only set fields, and the read-outs.
-use crate::gains::{common, Checked, LoopGains};
-use numbers::float::{f32_to_f64, f64_to_f32};
+use crate::gains::Checked;
+use crate::gains::LoopGains;
+use crate::gains::common;
+use numbers::float::f32_to_f64;
+use numbers::float::f64_to_f32;
 ghost use mathlib.Core.Path.{_≡_};
 ghost use mathlib.Core.Bool.{true, false};
 ghost use Rattle.decoder.specs.Machine.{enabledOf, resetOf};

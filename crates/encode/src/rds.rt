@@ -1,14 +1,14 @@
 // The multiplex encoder with RDS on the subcarrier at three times the pilot's phase.
-use blocks::answer::Answer;
-use blocks::answer::is_accepted;
-use blocks::answer::table_rule;
-use blocks::answer::then_input;
-use blocks::answer::then_output;
 use crate::encode::NewEncode;
 use crate::encode::SetEncode;
 use crate::encode::StereoEncode;
 use crate::encode::good_level;
 use crate::encode::multiplex;
+use blocks::answer::Answer;
+use blocks::answer::is_accepted;
+use blocks::answer::table_rule;
+use blocks::answer::then_input;
+use blocks::answer::then_output;
 use phase::lookup::cos_f32;
 use phase::lookup::sine_at_thrice;
 ghost use mathlib.Core.Path.{_≡_};

@@ -23,7 +23,7 @@ is-accepted-requires : tie.Need-is-accepted-requires
 is-accepted-requires c κs = search needs
 
 returns : tie.Need-returns
-returns c = 
+returns c =
     let l = c .before .before in
     let a = start l .args in
     turned-back f32 (a .table .now) (a .mpx .now) (a .pilot .now) (pllF32 (a .d)) (a .sum .now) (a .difference .now) _ (l .block-lengths .ensures) (failed (c .before .is-accepted .ensures) (c .if1 .taken))
@@ -32,7 +32,7 @@ scan-requires : tie.Need-scan-requires
 scan-requires c κs = search needs
 
 run-clean-requires : tie.Need-run-clean-requires
-run-clean-requires c κs = 
+run-clean-requires c κs =
     let e = c .before .before .before .before in
     let k = lengths-equal (length (start (e .before .before) .args .table .now)) _ _ _ _ (sym (ap accepts (e .before .before .block-lengths .ensures)) ∙ taken e) in
     (k .0, k .1, k .2, sym (c .before .before .before .scan .ensures) ∙ c .before .before .if2 .taken)
@@ -44,7 +44,7 @@ same-length-2 : tie.Need-same-length-2
 same-length-2 c = search needs
 
 returns-2 : tie.Need-returns-2
-returns-2 c = 
+returns-2 c =
     let r = c .before .before .before .before in
     let e = r .before .before .before .before .before in
     let l = e .before .before in
@@ -52,7 +52,7 @@ returns-2 c =
     carried-out f32 (a .table .now) (a .mpx .now) (a .pilot .now) (pllF32 (a .d)) (a .sum .now) (a .difference .now) _ (l .block-lengths .ensures) (taken e) (r .run-clean .ensures)
 
 run-checked-requires : tie.Need-run-checked-requires
-run-checked-requires c κs = 
+run-checked-requires c κs =
     let e = c .before .before .before .before in
     let k = lengths-equal (length (start (e .before .before) .args .table .now)) _ _ _ _ (sym (ap accepts (e .before .before .block-lengths .ensures)) ∙ taken e) in
     (k .0, k .1, k .2)
@@ -64,7 +64,7 @@ same-length-4 : tie.Need-same-length-4
 same-length-4 c = search needs
 
 returns-3 : tie.Need-returns-3
-returns-3 c = 
+returns-3 c =
     let r = c .before .before .before .before in
     let e = r .before .before .before .before .before in
     let l = e .before .before in

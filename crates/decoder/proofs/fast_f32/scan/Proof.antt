@@ -34,7 +34,7 @@ loop-less : tie.Need-loop-less Inv-loop μ-loop
 loop-less c = omega arith
 
 loop-again : tie.Need-loop-again Inv-loop μ-loop
-loop-again c = 
+loop-again c =
     let at = c .before .before .before in
     (omega arith, scan-next (at .before .before .args .pilot .now) (at .loop .i) (at .loop .ok) (c .is-finite-pattern .result) (c .before .before .loop-test .taken) (at .loop .inv .1) (c .is-finite-pattern .ensures))
 

@@ -23,13 +23,13 @@ is-accepted-requires : tie.Need-is-accepted-requires
 is-accepted-requires c κs = search needs
 
 returns : tie.Need-returns
-returns c = 
+returns c =
     let l = c .before .before in
     let a = start l .args in
     turned-back f32 (a .table .now) (a .mpx .now) (a .pilot .now) (pllF32 (a .d)) (a .sum .now) (a .difference .now) _ (l .block-lengths .ensures) (failed (c .before .is-accepted .ensures) (c .if1 .taken))
 
 run-requires : tie.Need-run-requires
-run-requires c κs = 
+run-requires c κs =
     let e = c .before .before in
     let k = lengths-equal (length (start (e .before .before) .args .table .now)) _ _ _ _ (sym (ap accepts (e .before .before .block-lengths .ensures)) ∙ taken e) in
     (k .0, k .1, k .2)
@@ -41,7 +41,7 @@ same-length-2 : tie.Need-same-length-2
 same-length-2 c = search needs
 
 returns-2 : tie.Need-returns-2
-returns-2 c = 
+returns-2 c =
     let r = c .before .before .before .before in
     let e = r .before .before .before in
     let l = e .before .before in
