@@ -1,6 +1,6 @@
 // What the crate numbers answers, as a word.
 use crate::names;
-use crate::words;
+use lines::words;
 
 // Whether the arguments are words of the function's types. Where it has one argument the second
 // word is 0.

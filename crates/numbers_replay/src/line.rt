@@ -1,6 +1,7 @@
 // A line of the list: a name in 16 columns, the words of two arguments and of the answer in 16
 // hexadecimal digits each, with a space before each word and a new line after the last.
-ghost use Prim.Native.Nat.{_≤_};
+use lines::line::Hex;
+use lines::line::word;
 
 pub struct Case {
     pub function: usize,
@@ -12,43 +13,6 @@ pub struct Case {
 pub enum Read {
     Case(Case),
     Malformed,
-}
-
-enum Hex {
-    Value(u64),
-    Malformed,
-}
-
-// The value of a hexadecimal digit, or 16 for another byte.
-fn digit(c: u8) -> u64 {
-    if c >= b'0' {
-        if c <= b'9' {
-            return (c - b'0') as u64;
-        }
-        if c >= b'a' {
-            if c <= b'f' {
-                return (c - b'a' + 10) as u64;
-            }
-        }
-    }
-    16
-}
-
-// The word whose 16 digits begin at a column.
-fn word(line: &[u8; 68], at: usize) -> Hex
-    requires { ⌜ at ≤ 52 ⌝ }
-{
-    let mut value: u64 = 0;
-    let mut i = 0;
-    while i < 16 {
-        let d = digit(line[at + i]);
-        if d > 15 {
-            return Hex::Malformed;
-        }
-        value = value << 4 | d;
-        i += 1;
-    }
-    Hex::Value(value)
 }
 
 // Whether the columns between the words are as they have to be.

@@ -7,12 +7,11 @@ mod answer;
 mod line;
 mod names;
 mod tally;
-mod words;
 
 // A proved loop has to end, and nothing says that a file does: so the loop counts its turns down,
 // from a number that no run uses up.
-fn replay(fd: i32) -> tally::Tally {
-    let mut t = tally::fresh();
+fn replay(fd: i32) -> lines::tally::Tally {
+    let mut t = lines::tally::fresh();
     let mut turns = u64::MAX;
     while turns > 0 {
         t = tally::next(fd, t);

@@ -72,24 +72,12 @@ pub fn name(k: usize) -> [u8; 16] {
     }
 }
 
-// Whether a line begins with a name.
-fn begins(line: &[u8; 68], name: &[u8; 16]) -> bool {
-    let mut i = 0;
-    while i < 16 {
-        if line[i] != name[i] {
-            return false;
-        }
-        i += 1;
-    }
-    true
-}
-
 // The number of the function that a line names, or COUNT where there is none.
 pub fn find(line: &[u8; 68]) -> usize {
     let mut k = 0;
     while k < COUNT {
         let known = name(k);
-        if begins(line, &known) {
+        if lines::line::begins(line, &known) {
             return k;
         }
         k += 1;

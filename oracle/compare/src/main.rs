@@ -1,10 +1,15 @@
-//! Compares our static library with the original and with std, input by input.
+//! Compares our static libraries with the original and with std, input by input.
 //!
-//!     compare [COUNT]    the boundaries, COUNT random inputs and, of a float, COUNT NaNs for each
-//!                        function; COUNT is 4000000 where it is not given
-//!     compare every      every input of each function whose arguments have 32 bits in all
+//!     compare               all that follows but `every`
+//!     compare numbers [N]   for each number helper the boundaries, N random inputs and, of a
+//!                           float, N NaNs; N is 4000000 where it is not given
+//!     compare stereo        lookup, correction, oscillator, matrix, encoders and verdict
+//!     compare every         every input of each function whose arguments have 32 bits in all
+//!     compare every-stereo  every f32 of the corrections, every pair of the Q15 matrix
 
 mod ours;
+mod ours_stereo;
+mod stereo;
 
 use numbers_oracle::edges::edges;
 use numbers_oracle::random::Random;
@@ -110,22 +115,33 @@ fn compare_every(function: &'static Function) -> bool {
     c.report()
 }
 
+/// Whether no number helper differed.
+fn numbers(compare: impl Fn(&'static Function) -> bool) -> bool {
+    FUNCTIONS.iter().fold(true, |equal, f| equal & compare(f))
+}
+
+fn usage() -> ! {
+    eprintln!("usage: compare [numbers [N] | stereo | every | every-stereo]");
+    std::process::exit(2);
+}
+
 fn main() {
-    let argument = std::env::args().nth(1);
-    let mut equal = true;
-    for f in FUNCTIONS {
-        equal &= match argument.as_deref() {
-            Some("every") => compare_every(f),
-            None => compare_some(f, 4_000_000),
-            Some(n) => match n.parse() {
-                Ok(count) => compare_some(f, count),
-                Err(_) => {
-                    eprintln!("usage: compare [COUNT | every]");
-                    std::process::exit(2);
-                }
-            },
-        };
-    }
+    let mut arguments = std::env::args().skip(1);
+    let (what, count) = (arguments.next(), arguments.next());
+    let count = match count.map(|n| n.parse::<u64>()) {
+        None => 4_000_000,
+        Some(Ok(n)) => n,
+        Some(Err(_)) => usage(),
+    };
+    let some = |f| compare_some(f, count);
+    let equal = match what.as_deref() {
+        None => numbers(some) & stereo::compare(),
+        Some("numbers") => numbers(some),
+        Some("stereo") => stereo::compare(),
+        Some("every") => numbers(compare_every),
+        Some("every-stereo") => stereo::every_correction() & stereo::every_matrix_q15(),
+        Some(_) => usage(),
+    };
     if !equal {
         std::process::exit(1);
     }

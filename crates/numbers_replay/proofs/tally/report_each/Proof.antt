@@ -13,6 +13,9 @@ abbrev μ-loop : tie.MeasureT-loop
 loop-holds : tie.Need-loop-holds Inv-loop μ-loop
 loop-holds c = tt
 
+name-requires : tie.Need-name-requires Inv-loop μ-loop
+name-requires c κs = tt
+
 report-one-requires : tie.Need-report-one-requires Inv-loop μ-loop
 report-one-requires c κs = tt
 
@@ -29,4 +32,15 @@ returns : tie.Need-returns Inv-loop μ-loop
 returns c = tt
 
 pub report-each-spec : {M : Type 1} → statement M
-report-each-spec = tie.close (tie.spec Inv-loop μ-loop loop-holds report-one-requires add-k loop-less loop-again returns)
+report-each-spec =
+    tie.close
+    (tie.spec
+    Inv-loop
+    μ-loop
+    loop-holds
+    name-requires
+    report-one-requires
+    add-k
+    loop-less
+    loop-again
+    returns)

@@ -1,0 +1,68 @@
+// A line of the list: a name in 16 columns, the words of five arguments and of the answer in 16
+// hexadecimal digits each, with a space before each word and a new line after the last.
+use lines::line::Hex;
+use lines::line::has;
+use lines::line::word;
+
+pub struct Case {
+    pub function: usize,
+    pub a: u64,
+    pub b: u64,
+    pub c: u64,
+    pub d: u64,
+    pub e: u64,
+    pub answer: u64,
+}
+
+pub enum Read {
+    Case(Case),
+    Malformed,
+}
+
+// Whether the columns between the words are as they have to be.
+fn is_spaced(line: &[u8; 119]) -> bool {
+    has(line, 16, b' ')
+        & has(line, 33, b' ')
+        & has(line, 50, b' ')
+        & has(line, 67, b' ')
+        & has(line, 84, b' ')
+        & has(line, 101, b' ')
+        & has(line, 118, b'\n')
+}
+
+pub fn parse(line: &[u8; 119]) -> Read {
+    let function = crate::names::find(line);
+    if function >= crate::names::COUNT {
+        return Read::Malformed;
+    }
+    if !is_spaced(line) {
+        return Read::Malformed;
+    }
+    let Hex::Value(a) = word(line, 17) else {
+        return Read::Malformed;
+    };
+    let Hex::Value(b) = word(line, 34) else {
+        return Read::Malformed;
+    };
+    let Hex::Value(c) = word(line, 51) else {
+        return Read::Malformed;
+    };
+    let Hex::Value(d) = word(line, 68) else {
+        return Read::Malformed;
+    };
+    let Hex::Value(e) = word(line, 85) else {
+        return Read::Malformed;
+    };
+    let Hex::Value(answer) = word(line, 102) else {
+        return Read::Malformed;
+    };
+    Read::Case(Case {
+        function,
+        a,
+        b,
+        c,
+        d,
+        e,
+        answer,
+    })
+}

@@ -1,0 +1,45 @@
+// Replays the list of the original's answers, data/stereo.txt, through lookup, correction,
+// oscillator, matrix and encoders, writes how many lines of each function agree, and then what
+// document 01's other cases give. oracle/README.md says what a line holds and how the list was
+// made.
+use libc::STDOUT_FILENO;
+
+mod answer;
+mod cases;
+mod line;
+mod names;
+mod samples;
+mod tally;
+
+// A proved loop has to end, and nothing says that a file does: so the loop counts its turns down,
+// from a number that no run uses up.
+fn replay(fd: i32, cos: &[f32], cos_q15: &[i16]) -> lines::tally::Tally {
+    let mut t = lines::tally::fresh();
+    let mut turns = u64::MAX;
+    while turns > 0 {
+        t = tally::next(fd, cos, cos_q15, t);
+        if t.ended {
+            return t;
+        }
+        turns -= 1;
+    }
+    t
+}
+
+fn main() {
+    let path = b"stereo.txt";
+    let fd = os::open_read(path);
+    if fd < 0 {
+        os::fail(path);
+        io::write_all(STDOUT_FILENO, b"the list cannot be opened\n");
+        return;
+    }
+    let mut cos = [0.0f32; 4097];
+    samples::fill_f32(samples::TABLE_F32, &mut cos);
+    let mut cos_q15 = [0i16; 4097];
+    samples::fill_q15(samples::TABLE_Q15, &mut cos_q15);
+    let t = replay(fd, &cos, &cos_q15);
+    libc::close(fd);
+    tally::report(t);
+    cases::run(&cos);
+}

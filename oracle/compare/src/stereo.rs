@@ -1,0 +1,516 @@
+//! Lookup, correction, oscillator, matrix, encoders and verdict, compared with the original.
+
+use std::collections::BTreeMap;
+
+use numbers_oracle::answers::{word_f32, word_i16};
+use stereo_oracle::answers::{self, ACCEPTED, SIDES, Said, TABLE};
+use stereo_oracle::inputs::{Inputs, Limits, corrections, limits};
+
+use crate::ours_stereo as ours;
+
+/// Differences of one part that are printed; the others are counted.
+const SHOWN: u64 = 5;
+
+/// Lengths of the blocks.
+const LENGTHS: [usize; 7] = [0, 1, 2, 63, 64, 65, 4096];
+
+struct Part {
+    name: &'static str,
+    cases: u64,
+    // of blocks: the output samples compared
+    samples: u64,
+    // how many of our answers are a refusal, by its number
+    refused: BTreeMap<u64, u64>,
+    differences: u64,
+}
+
+impl Part {
+    fn new(name: &'static str) -> Self {
+        Part {
+            name,
+            cases: 0,
+            samples: 0,
+            refused: BTreeMap::new(),
+            differences: 0,
+        }
+    }
+
+    /// Counts an answer that is a refusal.
+    fn refused(&mut self, number: u64) {
+        *self.refused.entry(number).or_default() += 1;
+    }
+
+    /// Counts a block's answer if it is a refusal.
+    fn said(&mut self, said: Said) {
+        if said != ACCEPTED {
+            self.refused(said[0] as u64 - 100);
+        }
+    }
+
+    /// Counts an increment's code if it is a refusal.
+    fn code(&mut self, code: u64) {
+        if code >= answers::REFUSED {
+            self.refused(code - answers::REFUSED);
+        }
+    }
+
+    fn differ(&mut self, text: String) {
+        self.differences += 1;
+        if self.differences <= SHOWN {
+            println!("{}: {text}", self.name);
+        }
+    }
+
+    /// One case. `inputs` is asked only where the answers differ.
+    fn same<T: PartialEq + std::fmt::Debug>(
+        &mut self,
+        expected: T,
+        got: T,
+        inputs: impl Fn() -> String,
+    ) {
+        self.cases += 1;
+        if got != expected {
+            self.differ(format!("{}: {expected:x?}, ours {got:x?}", inputs()));
+        }
+    }
+
+    /// A block's output, word by word; no case of its own.
+    fn same_words(&mut self, expected: &[u64], got: &[u64], inputs: impl Fn(usize) -> String) {
+        if expected.len() != got.len() {
+            self.differ(format!("lengths {} and {}", expected.len(), got.len()));
+        }
+        self.samples += expected.len() as u64;
+        for (i, (e, g)) in expected.iter().zip(got).enumerate() {
+            if e != g {
+                self.differ(format!("{}: {e:x}, ours {g:x}", inputs(i)));
+            }
+        }
+    }
+
+    fn report(&self) -> bool {
+        print!("{:16} {} cases", self.name, self.cases);
+        if self.samples > 0 {
+            print!(" of {} samples", self.samples);
+        }
+        for (number, count) in &self.refused {
+            print!(", {count} refused by {number}");
+        }
+        println!(", {} differences", self.differences);
+        self.differences == 0
+    }
+}
+
+fn lookups() -> bool {
+    let mut r = Inputs::new(3);
+    let mut f32s = Part::new("cos_f32");
+    let mut pairs = Part::new("interp_f32_pair");
+    let mut plain = Part::new("cos_q15");
+    let mut quick = Part::new("interp_q15");
+    for k in 0..40 {
+        let (tf, tq) = (r.table_f32(k % 2 == 0), r.table_q15());
+        // each entry's own phase and the one before the next entry, then any
+        let ends = (0..=4095u32).flat_map(|i| [i << 20, i << 20 | 0xF_FFFF]);
+        let any: Vec<u32> = (0..60_000).map(|_| r.u32()).collect();
+        for p in ends.chain(any) {
+            let i = (p >> 20) as usize;
+            let of_f32 = || {
+                format!(
+                    "p {p:08x}, entries {:08x} {:08x}",
+                    tf[i].to_bits(),
+                    tf[i + 1].to_bits()
+                )
+            };
+            let of_q15 = || format!("p {p:08x}, entries {} {}", tq[i], tq[i + 1]);
+            f32s.same(
+                answers::cos_f32(&tf, p),
+                word_f32(ours::cos_f32(&tf, p)),
+                of_f32,
+            );
+            pairs.same(
+                answers::pair_f32(&tf, p),
+                ours::pair_f32(&tf, p).map(word_f32),
+                of_f32,
+            );
+            let q = answers::cos_q15(&tq, p);
+            plain.same(q, word_i16(ours::cos_q15(&tq, p)), of_q15);
+            quick.same(q, ours::interp_q15(&tq, p) as i64 as u64, of_q15);
+        }
+    }
+    f32s.report() & pairs.report() & plain.report() & quick.report()
+}
+
+struct Corrections {
+    plain: Part,
+    fast: Part,
+}
+
+impl Corrections {
+    fn new() -> Self {
+        Corrections {
+            plain: Part::new("correction_plain"),
+            fast: Part::new("correction_fast"),
+        }
+    }
+
+    fn compare(&mut self, f: f32) {
+        let of = || format!("f {:08x}", f.to_bits());
+        let plain = ours::pescrondilu_correction_plain(f);
+        let fast = ours::pescrondilu_correction_fast(f);
+        self.plain.same(answers::correction_plain(f), plain, of);
+        self.fast.same(answers::correction_fallback(f), fast, of);
+        if plain != fast {
+            self.fast.differ(format!("{}: plain {plain:x}", of()));
+        }
+    }
+
+    fn report(&self) -> bool {
+        self.plain.report() & self.fast.report()
+    }
+}
+
+fn some_corrections() -> bool {
+    let mut r = Inputs::new(4);
+    let mut c = Corrections::new();
+    corrections().into_iter().for_each(|f| c.compare(f));
+    for k in 0..100_000_000u64 {
+        let w = r.u32();
+        c.compare(f32::from_bits(match k % 2 {
+            0 => w,
+            // a size from 2^-34 to 2^21, where v goes from less than 1 to above 2^51
+            _ => w & 0x807F_FFFF | (93 + (w >> 23 & 0xFF) % 56) << 23,
+        }));
+    }
+    c.report()
+}
+
+/// Every f32.
+pub fn every_correction() -> bool {
+    let mut c = Corrections::new();
+    (0..=u32::MAX).for_each(|w| c.compare(f32::from_bits(w)));
+    c.report()
+}
+
+fn oscillator() -> bool {
+    let mut r = Inputs::new(5);
+    let mut inc = Part::new("increment_for");
+    let mut compare = |freq: f64, rate: f64| {
+        let got = ours::pescrondilu_increment_for(freq, rate);
+        inc.code(got);
+        inc.same(answers::increment_for(freq, rate), got, || {
+            format!("{:016x} {:016x}", freq.to_bits(), rate.to_bits())
+        });
+    };
+    // ties of frac times 2^32, and fractions that round to 1
+    for k in 0..20_000u64 {
+        let tie = k as f64 / f64::powi(2.0, 33);
+        for x in [tie.next_down(), tie, tie.next_up()] {
+            compare(x, 1.0);
+            compare(-x, 1.0);
+            compare(x + (k % 7) as f64, 1.0);
+        }
+    }
+    for _ in 0..4_000_000 {
+        compare(r.f64(), r.f64());
+        let whole = r.below(1 << 40) as f64;
+        compare(whole, r.below(1 << 24) as f64);
+    }
+    let mut on = Part::new("advance");
+    for k in 0..4_000_000 {
+        let (phase, inc) = (r.u32(), r.u32());
+        let n = match k % 4 {
+            0 => [
+                0,
+                1,
+                4096,
+                u32::MAX as usize,
+                1 << 32,
+                (1 << 32) + 1,
+                usize::MAX,
+            ][r.below(7) as usize],
+            1 => r.u32() as usize,
+            _ => r.0.word() as usize,
+        };
+        on.same(
+            answers::advance(phase, inc, n),
+            ours::pescrondilu_advance(phase, inc, n),
+            || format!("{phase:08x} {inc:08x} {n}"),
+        );
+    }
+    inc.report() & on.report()
+}
+
+/// Any of a list.
+fn one<T: Copy>(r: &mut Inputs, list: &[T]) -> T {
+    list[r.below(list.len() as u64) as usize]
+}
+
+fn construction() -> bool {
+    let mut r = Inputs::new(6);
+    let l: Limits = limits();
+    let mut new = Part::new("encode_new");
+    let mut rds = Part::new("encode_rds_new");
+    let mut compare = |f: f64, m: f32, p: f32, b: f32, rate: f64| {
+        let of = || {
+            format!(
+                "{:016x} {:08x} {:08x} {:08x} {:016x}",
+                f.to_bits(),
+                m.to_bits(),
+                p.to_bits(),
+                b.to_bits(),
+                rate.to_bits()
+            )
+        };
+        let got = ours::pescrondilu_encode_new(f, m, p, rate);
+        new.code(got);
+        new.same(answers::encode_new(f, m, p, rate), got, of);
+        let got = ours::pescrondilu_encode_rds_new(f, m, p, b, rate);
+        rds.code(got);
+        rds.same(answers::encode_rds_new(f, m, p, b, rate), got, of);
+    };
+    // each argument's limits with the others good, then any of all
+    l.frequency
+        .iter()
+        .for_each(|f| compare(*f, 0.9, 0.09, 0.04, 192000.0));
+    l.main
+        .iter()
+        .for_each(|m| compare(19000.0, *m, 0.09, 0.04, 192000.0));
+    l.level.iter().for_each(|x| {
+        compare(19000.0, 0.9, *x, 0.04, 192000.0);
+        compare(19000.0, 0.9, 0.09, *x, 192000.0);
+    });
+    l.rate
+        .iter()
+        .for_each(|rate| compare(19000.0, 0.9, 0.09, 0.04, *rate));
+    for _ in 0..1_000_000 {
+        let (f, rate) = (one(&mut r, &l.frequency), one(&mut r, &l.rate));
+        let (m, p, b) = (
+            one(&mut r, &l.main),
+            one(&mut r, &l.level),
+            one(&mut r, &l.level),
+        );
+        compare(f, m, p, b, rate);
+        let f = 18000.0 + (r.below(2_000_000) as f64) / 1000.0;
+        compare(f, 0.9, 0.09, 0.04, 120000.0 + r.below(1 << 30) as f64);
+        compare(r.f64(), r.f32(), r.f32(), r.f32(), r.f64());
+    }
+    new.report() & rds.report()
+}
+
+fn setters() -> bool {
+    let mut r = Inputs::new(7);
+    let levels = limits().level;
+    let mut pilot = Part::new("set_pilot");
+    let mut rds = Part::new("set_rds");
+    for k in 0..1_000_000usize {
+        let fields = r.fields(false);
+        let to = match levels.get(k) {
+            Some(x) => *x,
+            None if k % 2 == 0 => one(&mut r, &levels),
+            None => r.f32(),
+        };
+        let of = || format!("{fields:?} to {:08x}", to.to_bits());
+        for (part, expected, got) in [
+            (
+                &mut pilot,
+                answers::set_pilot(fields, to),
+                ours::set_pilot(fields, to),
+            ),
+            (
+                &mut rds,
+                answers::set_rds(fields, to),
+                ours::set_rds(fields, to),
+            ),
+        ] {
+            if got.0 != 0 {
+                part.refused(got.0 as u64);
+            }
+            part.same(expected, got, of);
+        }
+    }
+    pilot.report() & rds.report()
+}
+
+/// The document's rule, since the original has no verdict.
+fn verdict() -> bool {
+    let mut r = Inputs::new(8);
+    let mut part = Part::new("on_air");
+    let mut compare = |f: f64, a: f32| {
+        let expected = (0.08f32..=0.1f32).contains(&a);
+        part.same(expected, ours::pescrondilu_on_air(f, a), || {
+            format!("{:08x}", a.to_bits())
+        });
+    };
+    for x in [0.08f32, 0.1] {
+        for y in [x.next_down(), x, x.next_up()] {
+            compare(19000.0, y);
+            compare(f64::NAN, y);
+            compare(19000.0, -y);
+        }
+    }
+    (0..=u32::MAX)
+        .step_by(97)
+        .for_each(|w| compare(19000.0, f32::from_bits(w)));
+    (0..1_000_000).for_each(|_| {
+        compare(
+            r.f64(),
+            f32::from_bits(0x3DA0_0000 + (r.u32() & 0x0040_0000 - 1)),
+        )
+    });
+    part.report()
+}
+
+/// Lengths for a number of slices: all equal, then each one damaged, then several.
+fn lengths<const N: usize>(r: &mut Inputs) -> Vec<[usize; N]> {
+    let mut all = Vec::new();
+    for n in LENGTHS {
+        (0..20).for_each(|_| all.push([n; N]));
+        for k in 0..N {
+            for m in [n.wrapping_sub(1), n + 1, 0, 2 * n + 3] {
+                if m < 1 << 20 {
+                    let mut damaged = [n; N];
+                    damaged[k] = m;
+                    all.push(damaged);
+                }
+            }
+        }
+        for _ in 0..20 {
+            all.push(std::array::from_fn(|_| one(r, &[n, n, n + 1, 5])));
+        }
+    }
+    all
+}
+
+fn matrix_f32() -> bool {
+    let mut r = Inputs::new(9);
+    let mut part = Part::new("matrix_f32");
+    let all: Vec<[usize; 4]> = (0..20).flat_map(|_| lengths(&mut r)).collect();
+    for (k, n) in all.iter().enumerate() {
+        let calm = k % 3 == 0;
+        let [sum, difference, left, right] = n.map(|m| r.block_f32(m, calm));
+        let (mut l, mut ri) = (left.clone(), right.clone());
+        let said = ours::matrix_f32(&sum, &difference, &mut l, &mut ri);
+        let words = |x: &[f32]| x.iter().map(|y| word_f32(*y)).collect::<Vec<_>>();
+        part.said(said);
+        for side in SIDES {
+            let e = answers::matrix_f32(side, &sum, &difference, &left, &right);
+            part.same(e.said, said, || format!("{side:?} {n:?}"));
+            let of = |i: usize| {
+                let bits = |x: &[f32]| x.get(i).map(|y| y.to_bits());
+                format!(
+                    "{side:?} {n:?} at {i} {:x?} {:x?}",
+                    bits(&sum),
+                    bits(&difference)
+                )
+            };
+            part.same_words(&e.left, &words(&l), of);
+            part.same_words(&e.right, &words(&ri), of);
+        }
+    }
+    part.report()
+}
+
+fn matrix_q15() -> bool {
+    let mut r = Inputs::new(10);
+    let mut part = Part::new("matrix_q15");
+    let all: Vec<[usize; 4]> = (0..20).flat_map(|_| lengths(&mut r)).collect();
+    for n in &all {
+        let [sum, difference, left, right] = n.map(|m| r.block_i16(m));
+        let (mut l, mut ri) = (left.clone(), right.clone());
+        let said = ours::matrix_q15(&sum, &difference, &mut l, &mut ri);
+        let words = |x: &[i16]| x.iter().map(|y| word_i16(*y)).collect::<Vec<_>>();
+        part.said(said);
+        for side in SIDES {
+            let e = answers::matrix_q15(side, &sum, &difference, &left, &right);
+            part.same(e.said, said, || format!("{side:?} {n:?}"));
+            let of = |i: usize| {
+                format!(
+                    "{side:?} {n:?} at {i} {:?} {:?}",
+                    sum.get(i),
+                    difference.get(i)
+                )
+            };
+            part.same_words(&e.left, &words(&l), of);
+            part.same_words(&e.right, &words(&ri), of);
+        }
+    }
+    part.report()
+}
+
+/// Every pair of i16, by blocks.
+pub fn every_matrix_q15() -> bool {
+    let mut part = Part::new("matrix_q15");
+    let all: Vec<i16> = (i16::MIN..=i16::MAX).collect();
+    let (mut left, mut right) = (all.clone(), all.clone());
+    for s in i16::MIN..=i16::MAX {
+        let sum = vec![s; all.len()];
+        let said = ours::matrix_q15(&sum, &all, &mut left, &mut right);
+        for side in SIDES {
+            let e = answers::matrix_q15(side, &sum, &all, &left, &right);
+            part.same(e.said, said, || format!("{side:?} {s}"));
+            let words = |x: &[i16]| x.iter().map(|y| word_i16(*y)).collect::<Vec<_>>();
+            part.same_words(&e.left, &words(&left), |i| {
+                format!("{side:?} {s} {}", all[i])
+            });
+            part.same_words(&e.right, &words(&right), |i| {
+                format!("{side:?} {s} {}", all[i])
+            });
+        }
+    }
+    part.report()
+}
+
+/// Tables' lengths that are wrong, and the one that is not.
+const TABLES: [usize; 7] = [TABLE, TABLE, TABLE, 4096, 4098, 0, 8194];
+
+/// The encoder, with RDS or without.
+fn encoder(name: &'static str, with_rds: bool) -> bool {
+    let mut r = Inputs::new(11);
+    let mut part = Part::new(name);
+    let all: Vec<[usize; 4]> = (0..20).flat_map(|_| lengths(&mut r)).collect();
+    for (k, n) in all.iter().enumerate() {
+        let calm = k % 3 == 0;
+        let entries = if n.iter().all(|m| *m == n[0]) {
+            TABLES[k % TABLES.len()]
+        } else {
+            one(&mut r, &[TABLE, TABLE, TABLE, 4096])
+        };
+        let table = r.block_f32(entries, calm);
+        let fields = r.fields(calm);
+        let [left, right, rds, output] = n.map(|m| r.block_f32(m, calm));
+        let rds = with_rds.then_some(&rds[..]);
+        let mut written = output.clone();
+        let (said, next) = ours::encode(fields, &table, (&left, &right), rds, &mut written);
+        part.said(said);
+        let words: Vec<u64> = written.iter().map(|y| word_f32(*y)).collect();
+        for side in SIDES {
+            let e = answers::encode(side, fields, &table, (&left, &right), rds, &output);
+            let of = || format!("{side:?} table {entries} {n:?} {fields:?}");
+            part.same((e.said, e.phase), (said, next), of);
+            part.same_words(&e.output, &words, |i| {
+                let bits = |x: &[f32]| x.get(i).map(|y| y.to_bits());
+                let b = rds.map(bits);
+                format!(
+                    "{} at {i} {:x?} {:x?} {b:x?}",
+                    of(),
+                    bits(&left),
+                    bits(&right)
+                )
+            });
+        }
+    }
+    part.report()
+}
+
+/// All parts; whether there was no difference.
+pub fn compare() -> bool {
+    lookups()
+        & some_corrections()
+        & oscillator()
+        & construction()
+        & setters()
+        & verdict()
+        & matrix_f32()
+        & matrix_q15()
+        & encoder("encode", false)
+        & encoder("encode_rds", true)
+}
