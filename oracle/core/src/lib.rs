@@ -5,6 +5,10 @@ pub mod fallback;
 pub mod kernels;
 pub mod probe;
 pub mod reference;
+#[cfg(not(feature = "fixed-tables"))]
+pub mod tables;
+#[cfg(feature = "fixed-tables")]
+#[path = "fixed_tables.rs"]
 pub mod tables;
 pub mod timing;
 
