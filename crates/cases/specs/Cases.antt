@@ -10,7 +10,8 @@ use Rattle.phase.specs.Lookup.{betweenQ15}
 use Rattle.phase.specs.Correction.{correctionOf}
 use Rattle.stereo.specs.Matrix.{leftQ15, rightQ15}
 use Rattle.encode.specs.Encode.{multiplexOf}
-use Rattle.decoder.specs.Machine.{Pll, nextOf, differenceOf}
+use Rattle.pll.specs.State.{Pll}
+use Rattle.decoder.specs.Machine.{nextOf, differenceOf}
 use Rattle.decoder.specs.Formats.{q15}
 
 -- a row: what is asked, and what document 01 says

@@ -6,7 +6,8 @@ use mathlib.Core.Bool.{Bool, true, false, cond, true≢false, false≢true}
 use mathlib.Core.List.{List, [], _∷_, _++_, append-nil}
 use lib.ListN.{length, getD}
 use Rattle.blocks.specs.Answer.{accepts}
-use Rattle.decoder.specs.Machine.{Pll, Arithmetic, decide, stereoOf, levelOf, nextOf, stateAt, blockSays, blockOf, enabledOf, resetOf}
+use Rattle.pll.specs.State.{Pll, enabledOf, resetOf}
+use Rattle.decoder.specs.Machine.{Arithmetic, decide, stereoOf, levelOf, nextOf, stateAt, blockSays, blockOf}
 use Rattle.decoder.specs.Calls.{Call, block, enable, disable, reset, callOf, final, levelsIn, levelsAfter, history, NoneUnder, Locked}
 
 module _ {A : Type 0} (F : Arithmetic A) (on off : A) where

@@ -2,13 +2,9 @@ pub mod Loops
 pub mod Scan
 pub mod Steps
 pub mod Blocks
-pub mod Ranges
 pub mod Level
-pub mod Fit
-pub mod Held
+pub mod Kept
 pub mod Step
-pub mod Scaled
-pub mod Fresh
 pub mod History
 pub mod Agreement
 pub mod LimitQ15

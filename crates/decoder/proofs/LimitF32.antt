@@ -18,13 +18,14 @@ use Rattle.rounding.proofs.Order.{le-of-not-lt, le-self, neg-real, add-real, mu
 use Rattle.numbers.specs.Floats.{flushOf, absOf, tiny, toFormat, inRange}
 use Rattle.phase.specs.Lookup.{cosF32, fracF32}
 use Rattle.blocks.specs.Answer.{accepts}
-use Rattle.decoder.specs.Machine.{Pll, limited, errorOf, integOf, nextOf, stateAt, blockOf, enabledOf, resetOf}
+use Rattle.pll.specs.State.{Pll, enabledOf, resetOf}
+use Rattle.decoder.specs.Machine.{limited, errorOf, integOf, nextOf, stateAt, blockOf}
 use Rattle.decoder.specs.Formats.{f32, gatherF32}
-use Rattle.decoder.specs.Gains.{Gains, Built, made, refused, following, nought, narrows, allNarrow, commonOf, freshF32, newF32Of}
+use Rattle.pll.specs.Gains.{Gains, Built, made, refused, following, nought, narrows, allNarrow, commonOf, freshF32, newF32Of}
 use Rattle.decoder.specs.Calls.{Call, block, enable, disable, reset, callOf, final, unitTable, UnitTables}
-use Rattle.decoder.proofs.Ranges.{and-out}
-use Rattle.decoder.proofs.Scaled.{plus, round-plus}
-use Rattle.decoder.proofs.Fresh.{Sound, sound, all-narrow, made-same}
+use Rattle.pll.proofs.Ranges.{and-out}
+use Rattle.pll.proofs.Scaled.{plus, round-plus}
+use Rattle.pll.proofs.Fresh.{Sound, sound, all-narrow, made-same}
 
 -- ---- a lookup in a table within -1..1 is finite
 holds : {b : Bool} → b ≡ true → T b

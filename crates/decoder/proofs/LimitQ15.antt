@@ -9,11 +9,14 @@ use lib.IntN.{ℤ, pos}
 use mir.Syntax.{w16}
 use mir.Val.{SFits}
 use Rattle.blocks.specs.Answer.{accepts}
-use Rattle.decoder.specs.Machine.{Pll, nextOf, stateAt, blockOf, enabledOf, resetOf}
-use Rattle.decoder.specs.Formats.{q15, fitQ15}
+use Rattle.pll.specs.State.{Pll, enabledOf, resetOf}
+use Rattle.decoder.specs.Machine.{nextOf, stateAt, blockOf}
+use Rattle.pll.specs.Fit.{fitQ15}
+use Rattle.decoder.specs.Formats.{q15}
 use Rattle.decoder.specs.Calls.{Call, block, enable, disable, reset, callOf, final, Samples16, Pilots16}
-use Rattle.decoder.proofs.Fit.{Fit, fit-in, fitted, fit-next}
-use Rattle.decoder.proofs.Fresh.{origin-within}
+use Rattle.pll.proofs.Fit.{Fit, fit-in, fitted}
+use Rattle.decoder.proofs.Kept.{fit-next}
+use Rattle.pll.proofs.Fresh.{origin-within}
 
 sample-fits : (ps : List ℤ) (i : ℕ) → Samples16 ps → SFits w16 (getD ps i (pos 0))
 sample-fits [] i h = record { sfits = lit< tt }

@@ -11,16 +11,17 @@ use contract.Lifetimes.{Lfts}
 use Rattle.blocks.specs.Answer.{Said, says, accepted, turned, firstOf, lengthRule}
 use Rattle.blocks.specs.declared.answer.Answer.{Answer}
 use Rattle.blocks.specs.declared.answer.Answer.the-variants.{Accepted, Unfit, Table, Input, Output}
-use Rattle.decoder.specs.Machine.{Pll, Arithmetic, Blocked, lengthsSay, blockSays, blockOf, enabledOf, resetOf}
+use Rattle.pll.specs.State.{Pll, enabledOf, resetOf}
+use Rattle.decoder.specs.Machine.{Arithmetic, Blocked, lengthsSay, blockSays, blockOf}
 use Rattle.rounding.specs.Cut.{restOf, cutBy}
 use Rattle.numbers.specs.Floats.{wholeOf, toFormat}
 use Rattle.numbers.specs.Scaled.{scaledOf}
 use Rattle.decoder.specs.Formats.{f32, q15}
-use Rattle.decoder.specs.Gains.{Gains, made, gainsOf, commonOf, freshF32, freshQ15, buildQ15, newF32Of, newQ15Of}
-use Rattle.decoder.specs.Records.{pllF32, pllQ15}
+use Rattle.pll.specs.Gains.{Gains, made, gainsOf, commonOf, freshF32, freshQ15, buildQ15, newF32Of, newQ15Of}
+use Rattle.pll.specs.Records.{pllF32, pllQ15}
 use Rattle.decoder.specs.Calls.{Call, block, enable, disable, reset}
-use Rattle.decoder.specs.declared.pll_f32.StereoPllF32.{StereoPllF32}
-use Rattle.decoder.specs.declared.pll_q15.StereoPllQ15.{StereoPllQ15}
+use Rattle.pll.specs.declared.pll_f32.StereoPllF32.{StereoPllF32}
+use Rattle.pll.specs.declared.pll_q15.StereoPllQ15.{StereoPllQ15}
 use Rattle.decoder.proofs.Agreement.{Left, Contracts, Runs, lent, set}
 use Rattle.decoder.proofs.Demand.{Format, F32, Q15, plainly, fastly}
 

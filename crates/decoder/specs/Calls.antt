@@ -10,7 +10,8 @@ use mir.Syntax.{w16}
 use mir.Val.{SFits}
 use Rattle.numbers.specs.Floats.{inRange}
 use Rattle.blocks.specs.Answer.{Said, accepted, accepts}
-use Rattle.decoder.specs.Machine.{Pll, Arithmetic, stateAt, Blocked, blockOf, enabledOf, resetOf}
+use Rattle.pll.specs.State.{Pll, enabledOf, resetOf}
+use Rattle.decoder.specs.Machine.{Arithmetic, stateAt, Blocked, blockOf}
 use Rattle.decoder.specs.Formats.{f32}
 
 -- a call with what it brings: table, mpx, pilot, and what the two outputs held

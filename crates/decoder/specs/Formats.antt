@@ -1,9 +1,8 @@
--- The two formats' arithmetic. Source: document 01, "The plain machine, one sample", what each step says for f32 and for Q15, and the unfit Q15 record. Definitions only.
-use Prim.Native.Nat.{ℕ, _+_, _^_}
-use mathlib.Core.Bool.{Bool, true, false, not, _&&_, _||_}
+-- The two formats' arithmetic. Source: document 01, "The plain machine, one sample", what each step says for f32 and for Q15. Definitions only.
+use Prim.Native.Nat.{_^_}
+use mathlib.Core.Bool.{Bool, true, false, _&&_}
 use mathlib.Core.List.{List, [], _∷_}
-use lib.Dec.{leb, ltb}
-use lib.IntN.{ℤ, pos, negsuc, negℤ, _+ℤ_, _-ℤ_, _*ℤ_}
+use lib.IntN.{ℤ, pos, negℤ, _+ℤ_, _-ℤ_, _*ℤ_}
 use lib.Signed.{ltZ, leZ}
 use lib.Ieee.{Float, fin, binary32, add, sub, mul, le, lt, neg}
 use lib.Ieee.Scale.{finite}
@@ -11,7 +10,8 @@ use Rattle.numbers.specs.Integers.{sat16Of, roundShiftOf, modZ}
 use Rattle.numbers.specs.Floats.{flushOf}
 use Rattle.phase.specs.Lookup.{cosF32, cosQ15}
 use Rattle.phase.specs.Correction.{correctionOf}
-use Rattle.decoder.specs.Machine.{Pll, Arithmetic}
+use Rattle.pll.specs.Fit.{fitQ15}
+use Rattle.decoder.specs.Machine.{Arithmetic}
 
 -- f32: each operation rounded once; every record is taken
 unfoldable pub levelF32 : Float → Float → Float → Float
@@ -45,40 +45,6 @@ allFinite (p ∷ ps) = finite p && allFinite ps
 -- Q15: exact in the integers
 unfoldable pub levelQ15 : ℤ → ℤ → ℤ → ℤ
 levelQ15 beta level q = level +ℤ beta *ℤ (q -ℤ roundShiftOf level 31)
-
--- lo ≤ z ≤ hi
-abbrev pub withinZ : ℤ → ℤ → ℤ → Bool
-withinZ lo hi z = leZ lo z && leZ z hi
-
--- z fits i64
-abbrev pub fits64 : ℤ → Bool
-fits64 z = withinZ (negsuc 9223372036854775807) (pos 9223372036854775807) z
-
--- the guard: gain times 2^30 plus imax
-abbrev pub guardOf : ℤ → ℤ → ℤ
-guardOf gain imax = gain *ℤ pos (2 ^ 30) +ℤ imax
-
--- the level's bounds: -2^61 - 2^30 and 2^61 + 2^30 - 1
-abbrev pub levelLow : ℤ
-levelLow = negsuc 2305843010287435775
-
-abbrev pub levelHigh : ℤ
-levelHigh = pos 2305843010287435775
-
--- beta and the level within their bounds
-abbrev pub levelFit : ℤ → ℤ → Bool
-levelFit beta level = withinZ (pos 0) (pos (2 ^ 31)) beta && withinZ levelLow levelHigh level
-
-unfoldable pub fitQ15 : Pll ℤ → Bool
-fitQ15 d =
-    leZ (pos 0) (d .kp)
-    && (leZ (pos 0) (d .ki)
-    && (leZ (pos 0) (d .imax)
-    && (withinZ (pos 0) (pos (2 ^ 31)) (d .beta)
-    && (fits64 (guardOf (d .kp) (d .imax))
-    && (fits64 (guardOf (d .ki) (d .imax))
-    && (withinZ (negℤ (d .imax)) (d .imax) (d .integ)
-    && withinZ levelLow levelHigh (d .level)))))))
 
 abbrev pub q15 : Arithmetic ℤ
 q15 = record {

@@ -7,21 +7,7 @@ use lib.ListN.{length, getD}
 use Rattle.phase.specs.Lookup.{sineAt}
 use Rattle.blocks.specs.Answer.{Said, accepted, turned, firstOf, tableRule, inputRule, outputRule, kept}
 use Rattle.blocks.specs.Samples.{samples}
-
--- the machine's state: the record's fields
-pub record Pll (A : Type 0) : Type 0 where
-  pub kp : A
-  pub ki : A
-  pub imax : A
-  pub beta : A
-  pub on : A
-  pub off : A
-  pub step0 : ℕ
-  pub phase : ℕ
-  pub integ : A
-  pub level : A
-  pub stereo : Bool
-  pub enabled : Bool
+use Rattle.pll.specs.State.{Pll}
 
 -- what the steps say of one format's numbers; specs/Formats.antt has the two
 pub record Arithmetic (A : Type 0) : Type 0 where
@@ -134,36 +120,3 @@ module _ {A : Type 0} (F : Arithmetic A) where
         difference = kept said (samples n (λ i. differenceOf F t (stateAt F t pilot d i) (getD mpx i (F .nought)) (getD pilot i (F .nought)))) difference;
         pll = kept said (stateAt F t pilot d n) d;
       }
-
--- enable and disable set enabled; reset sets phase, integrator and level to 0 and stereo to false
-abbrev pub enabledOf : {A : Type 0} → Bool → Pll A → Pll A
-enabledOf b d = record {
-  kp = d .kp;
-  ki = d .ki;
-  imax = d .imax;
-  beta = d .beta;
-  on = d .on;
-  off = d .off;
-  step0 = d .step0;
-  phase = d .phase;
-  integ = d .integ;
-  level = d .level;
-  stereo = d .stereo;
-  enabled = b;
-}
-
-abbrev pub resetOf : {A : Type 0} → A → Pll A → Pll A
-resetOf z d = record {
-  kp = d .kp;
-  ki = d .ki;
-  imax = d .imax;
-  beta = d .beta;
-  on = d .on;
-  off = d .off;
-  step0 = d .step0;
-  phase = 0;
-  integ = z;
-  level = z;
-  stereo = false;
-  enabled = d .enabled;
-}

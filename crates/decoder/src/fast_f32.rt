@@ -13,12 +13,12 @@ use crate::parts_f32::level_of;
 use crate::parts_f32::moved;
 use crate::parts_f32::stereo_of;
 use crate::parts_f32::within;
-use crate::pll_f32::StereoPllF32;
 use blocks::answer::is_accepted;
 use phase::correction::correction_fast;
 use phase::lookup::cos_f32;
 use phase::lookup::interp_f32_pair;
 use phase::lookup::sine_at_twice;
+use pll::pll_f32::StereoPllF32;
 ghost use mathlib.Core.Path.{_≡_};
 ghost use mathlib.Core.Bool.{true};
 ghost use lib.ListN.{length};
@@ -26,7 +26,7 @@ ghost use lib.Ieee.Scale.{finite};
 ghost use Rattle.blocks.specs.Answer.{says};
 ghost use Rattle.decoder.specs.Machine.{nextOf, differenceOf, blockOf, Ran};
 ghost use Rattle.decoder.specs.Formats.{f32, allFinite};
-ghost use Rattle.decoder.specs.Records.{pllF32};
+ghost use Rattle.pll.specs.Records.{pllF32};
 
 // Whether x is finite, by its pattern with the sign bit masked off; a NaN has no pattern to look
 // at, and is told apart before.

@@ -1,8 +1,8 @@
 // The parts of a sample's steps that the f32 loops share.
-use crate::pll_f32::StereoPllF32;
 use blocks::answer::Answer;
 use numbers::float::flush_denormal;
 use numbers::float::is_finite_f32;
+use pll::pll_f32::StereoPllF32;
 ghost use mathlib.Core.Path.{_≡_};
 ghost use mathlib.Core.Bool.{cond};
 ghost use Prim.Native.Nat.{_+_, _%_, _^_};
@@ -11,7 +11,7 @@ ghost use lib.Ieee.{binary32};
 ghost use lib.Ieee.Scale.{finite};
 ghost use Rattle.decoder.specs.Machine.{decide, limited};
 ghost use Rattle.decoder.specs.Formats.{f32, levelF32, gatherF32};
-ghost use Rattle.decoder.specs.Gains.{nought};
+ghost use Rattle.pll.specs.Gains.{nought};
 
 // A decoder after a sample, and the sample's difference output.
 pub struct StepF32 {

@@ -1,10 +1,10 @@
 // The parts of a sample's steps that the Q15 loops share. Some ask for the bounds that a fit record
 // gives; no sum or product then passes an i64.
 use crate::parts_f32::moved;
-use crate::pll_q15::StereoPllQ15;
 use blocks::answer::Answer;
 use numbers::fixed::low32;
 use numbers::fixed::round_shift;
+use pll::pll_q15::StereoPllQ15;
 ghost use mathlib.Core.Path.{_≡_};
 ghost use mathlib.Core.Bool.{cond, true};
 ghost use mathlib.Core.List.{List};
@@ -14,8 +14,9 @@ ghost use lib.Signed.{nonNeg};
 ghost use lib.Dec.{T};
 ghost use Rattle.numbers.specs.Integers.{roundShiftOf};
 ghost use Rattle.decoder.specs.Machine.{decide, limited, errorOf, levelOf, nextOf};
-ghost use Rattle.decoder.specs.Formats.{q15, levelQ15, levelFit, fitQ15};
-ghost use Rattle.decoder.specs.Records.{pllQ15};
+ghost use Rattle.pll.specs.Fit.{levelFit, fitQ15};
+ghost use Rattle.decoder.specs.Formats.{q15, levelQ15};
+ghost use Rattle.pll.specs.Records.{pllQ15};
 
 // A decoder after a sample, and the sample's difference output.
 pub struct StepQ15 {

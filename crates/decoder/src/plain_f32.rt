@@ -9,18 +9,18 @@ use crate::parts_f32::level_of;
 use crate::parts_f32::moved;
 use crate::parts_f32::stereo_of;
 use crate::parts_f32::within;
-use crate::pll_f32::StereoPllF32;
 use blocks::answer::is_accepted;
 use phase::correction::correction_plain;
 use phase::lookup::cos_f32;
 use phase::lookup::sine_at;
 use phase::lookup::sine_at_twice;
+use pll::pll_f32::StereoPllF32;
 ghost use mathlib.Core.Path.{_≡_};
 ghost use lib.ListN.{length};
 ghost use Rattle.blocks.specs.Answer.{says};
 ghost use Rattle.decoder.specs.Machine.{nextOf, differenceOf, blockOf, Ran};
 ghost use Rattle.decoder.specs.Formats.{f32};
-ghost use Rattle.decoder.specs.Records.{pllF32};
+ghost use Rattle.pll.specs.Records.{pllF32};
 
 // One sample.
 fn step(table: &[f32], d: StereoPllF32, x: f32, p: f32) -> StepF32

@@ -3,7 +3,8 @@ use Prim.Native.Nat.{ℕ}
 use mathlib.Core.List.{List}
 use mathlib.Core.Path.{_≡_, _∙_, ap}
 use Rattle.blocks.specs.Answer.{Said}
-use Rattle.decoder.specs.Machine.{Pll, Blocked}
+use Rattle.pll.specs.State.{Pll}
+use Rattle.decoder.specs.Machine.{Blocked}
 use Rattle.words_c.specs.Words.{wordsOf}
 use Rattle.decoder_c.specs.Code.{PllInC, pllInC, BlockedInC, blockedInC}
 

@@ -5,8 +5,9 @@ use mathlib.Core.List.{List, [], _∷_}
 use lib.ListN.{getD}
 use lib.IntN.{ℤ}
 use lib.Ieee.{Float, binary64, div, ofInt}
-use Rattle.decoder.specs.Machine.{Pll, Blocked}
-use Rattle.decoder.specs.Gains.{Built, made, refused, power}
+use Rattle.pll.specs.State.{Pll}
+use Rattle.decoder.specs.Machine.{Blocked}
+use Rattle.pll.specs.Gains.{Built, made, refused, power}
 use Rattle.words_c.specs.Words.{wordsOf}
 
 -- ---- the record: its numbers, its two phases, its two switches

@@ -1,14 +1,15 @@
 // The f32 decoder.
-use decoder::pll_f32::NewF32;
-use decoder::pll_f32::StereoPllF32;
+use pll::pll_f32::NewF32;
+use pll::pll_f32::StereoPllF32;
 use words_c::words;
 ghost use mathlib.Core.Path.{_≡_};
 ghost use mathlib.Core.Bool.{true, false};
 ghost use lib.Ieee.{nan};
-ghost use Rattle.decoder.specs.Machine.{blockOf, enabledOf, resetOf};
+ghost use Rattle.decoder.specs.Machine.{blockOf};
+ghost use Rattle.pll.specs.State.{enabledOf, resetOf};
 ghost use Rattle.decoder.specs.Formats.{f32};
-ghost use Rattle.decoder.specs.Gains.{nought, newF32Of};
-ghost use Rattle.decoder.specs.Records.{pllF32};
+ghost use Rattle.pll.specs.Gains.{nought, newF32Of};
+ghost use Rattle.pll.specs.Records.{pllF32};
 ghost use Rattle.decoder_c.specs.Code.{pllInC, pllOutOfC, newInC, blockedInC, readF32};
 
 // The record that three arrays hold.

@@ -1,14 +1,15 @@
 // The Q15 decoder.
-use decoder::pll_q15::NewQ15;
-use decoder::pll_q15::StereoPllQ15;
+use pll::pll_q15::NewQ15;
+use pll::pll_q15::StereoPllQ15;
 use words_c::words;
 ghost use mathlib.Core.Path.{_≡_};
 ghost use mathlib.Core.Bool.{true, false};
 ghost use lib.IntN.{pos};
-ghost use Rattle.decoder.specs.Machine.{blockOf, enabledOf, resetOf};
+ghost use Rattle.decoder.specs.Machine.{blockOf};
+ghost use Rattle.pll.specs.State.{enabledOf, resetOf};
 ghost use Rattle.decoder.specs.Formats.{q15};
-ghost use Rattle.decoder.specs.Gains.{newQ15Of};
-ghost use Rattle.decoder.specs.Records.{pllQ15};
+ghost use Rattle.pll.specs.Gains.{newQ15Of};
+ghost use Rattle.pll.specs.Records.{pllQ15};
 ghost use Rattle.decoder_c.specs.Code.{pllInC, pllOutOfC, newInC, blockedInC, readQ15};
 
 // The record that three arrays hold.

@@ -1,11 +1,11 @@
 // The F32 decoder, lent and changed by the block (`&mut StereoPllState` in stereo.rs).
 use blocks::answer::Answer;
-use decoder::pll_f32::StereoPllF32;
+use pll::pll_f32::StereoPllF32;
 ghost use mathlib.Core.Path.{_≡_};
 ghost use Rattle.blocks.specs.Answer.{says};
 ghost use Rattle.decoder.specs.Machine.{blockOf};
 ghost use Rattle.decoder.specs.Formats.{f32};
-ghost use Rattle.decoder.specs.Records.{pllF32};
+ghost use Rattle.pll.specs.Records.{pllF32};
 
 // A block, the fast way.
 pub fn block(

@@ -1,11 +1,11 @@
 // The Q15 decoder, lent and changed by the block (`&mut StereoPllState` in stereo.rs).
 use blocks::answer::Answer;
-use decoder::pll_q15::StereoPllQ15;
+use pll::pll_q15::StereoPllQ15;
 ghost use mathlib.Core.Path.{_≡_};
 ghost use Rattle.blocks.specs.Answer.{says};
 ghost use Rattle.decoder.specs.Machine.{blockOf};
 ghost use Rattle.decoder.specs.Formats.{q15};
-ghost use Rattle.decoder.specs.Records.{pllQ15};
+ghost use Rattle.pll.specs.Records.{pllQ15};
 
 // A block, the fast way.
 pub fn block(

@@ -3,7 +3,7 @@ use mathlib.Core.Path.{_≡_, ap, _∙_}
 use lib.Ieee.{binary32, mul}
 use Rattle.phase.specs.declared.lookup.Pair.{Pair}
 use Rattle.decoder.specs.Formats.{f32}
-use Rattle.decoder.specs.Records.{pllF32}
+use Rattle.pll.specs.Records.{pllF32}
 use Rattle.decoder.proofs.Steps.{Parts, next-is, difference-is}
 use Rattle.decoder.proofs.fast_f32.step_clean.Statement.{statement}
 use Rattle.decoder.proofs.fast_f32.step_clean.Tie as tie

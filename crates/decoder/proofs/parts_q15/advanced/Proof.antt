@@ -8,11 +8,13 @@ use mir.Syntax.{w64}
 use mir.Facts.{toZ-ofZ}
 use Rattle.rounding.proofs.Lin.{back}
 use Rattle.numbers.specs.Integers.{roundShiftOf, modZ}
-use Rattle.decoder.specs.Machine.{Pll, decide, limited, errorOf, levelOf, nextOf}
+use Rattle.pll.specs.State.{Pll}
+use Rattle.decoder.specs.Machine.{decide, limited, errorOf, levelOf, nextOf}
 use Rattle.decoder.specs.Formats.{q15}
-use Rattle.decoder.specs.Records.{pllQ15}
-use Rattle.decoder.proofs.Fit.{limit, ki-room, kp-room}
-use Rattle.decoder.proofs.Held.{Held, held}
+use Rattle.pll.specs.Records.{pllQ15}
+use Rattle.pll.proofs.Fit.{limit}
+use Rattle.decoder.proofs.Kept.{ki-room, kp-room}
+use Rattle.pll.proofs.Held.{Held, held}
 use Rattle.decoder.proofs.parts_q15.advanced.Statement.{statement}
 use Rattle.decoder.proofs.parts_q15.advanced.Tie as tie
 

@@ -1,7 +1,7 @@
 -- `decoder_c::calls_f32::pescrondilu_enable_f32` meets its contract: the method's own equation, between the record taken and the one put back. Assumes nothing.
 use borrow.Author.Needs.{needs}
 use mathlib.Core.Bool.{true}
-use Rattle.decoder.specs.Machine.{enabledOf}
+use Rattle.pll.specs.State.{enabledOf}
 use Rattle.decoder_c.proofs.Arrays.{set-in-c}
 use Rattle.decoder_c.proofs.calls_f32.pescrondilu_enable_f32.Statement.{statement}
 use Rattle.decoder_c.proofs.calls_f32.pescrondilu_enable_f32.Tie as tie

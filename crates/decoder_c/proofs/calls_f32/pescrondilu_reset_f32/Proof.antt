@@ -1,7 +1,7 @@
 -- `decoder_c::calls_f32::pescrondilu_reset_f32` meets its contract: the method's own equation, between the record taken and the one put back. Assumes nothing.
 use borrow.Author.Needs.{needs}
-use Rattle.decoder.specs.Machine.{resetOf}
-use Rattle.decoder.specs.Gains.{nought}
+use Rattle.pll.specs.State.{resetOf}
+use Rattle.pll.specs.Gains.{nought}
 use Rattle.decoder_c.proofs.Arrays.{set-in-c}
 use Rattle.decoder_c.proofs.calls_f32.pescrondilu_reset_f32.Statement.{statement}
 use Rattle.decoder_c.proofs.calls_f32.pescrondilu_reset_f32.Tie as tie

@@ -1,6 +1,6 @@
 -- `decoder_c::calls_q15::pescrondilu_reset_q15` meets its contract: the method's own equation, between the record taken and the one put back. Assumes nothing.
 use borrow.Author.Needs.{needs}
-use Rattle.decoder.specs.Machine.{resetOf}
+use Rattle.pll.specs.State.{resetOf}
 use lib.IntN.{pos}
 use Rattle.decoder_c.proofs.Arrays.{set-in-c}
 use Rattle.decoder_c.proofs.calls_q15.pescrondilu_reset_q15.Statement.{statement}

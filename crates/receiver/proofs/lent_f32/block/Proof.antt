@@ -45,11 +45,11 @@ use denote.Exit.{yes}
 use Rattle.blocks.specs.Answer.{says as told}
 use Rattle.decoder.specs.Machine.{Blocked, blockOf}
 use Rattle.decoder.specs.Formats.{f32 as arithmetic}
-use Rattle.decoder.specs.Records.{pllF32}
-use Rattle.decoder.specs.declared.pll_f32.StereoPllF32.{StereoPllF32}
+use Rattle.pll.specs.Records.{pllF32}
+use Rattle.pll.specs.declared.pll_f32.StereoPllF32.{StereoPllF32}
 use Rattle.decoder.specs.declared.parts_f32.ReplyF32.{ReplyF32}
-use Rattle.decoder.proofs.pll_f32.StereoPllF32 as T
-use Rattle.decoder.proofs.pll_f32.StereoPllF32.Laws as T′
+use Rattle.pll.proofs.pll_f32.StereoPllF32 as T
+use Rattle.pll.proofs.pll_f32.StereoPllF32.Laws as T′
 use Rattle.blocks.proofs.answer.Answer as E
 use Rattle.blocks.proofs.answer.Answer.Laws as E′
 use Rattle.decoder.proofs.parts_f32.ReplyF32 as P

@@ -45,11 +45,11 @@ use denote.Exit.{yes}
 use Rattle.blocks.specs.Answer.{says as told}
 use Rattle.decoder.specs.Machine.{Blocked, blockOf}
 use Rattle.decoder.specs.Formats.{q15 as arithmetic}
-use Rattle.decoder.specs.Records.{pllQ15}
-use Rattle.decoder.specs.declared.pll_q15.StereoPllQ15.{StereoPllQ15}
+use Rattle.pll.specs.Records.{pllQ15}
+use Rattle.pll.specs.declared.pll_q15.StereoPllQ15.{StereoPllQ15}
 use Rattle.decoder.specs.declared.parts_q15.ReplyQ15.{ReplyQ15}
-use Rattle.decoder.proofs.pll_q15.StereoPllQ15 as T
-use Rattle.decoder.proofs.pll_q15.StereoPllQ15.Laws as T′
+use Rattle.pll.proofs.pll_q15.StereoPllQ15 as T
+use Rattle.pll.proofs.pll_q15.StereoPllQ15.Laws as T′
 use Rattle.blocks.proofs.answer.Answer as E
 use Rattle.blocks.proofs.answer.Answer.Laws as E′
 use Rattle.decoder.proofs.parts_q15.ReplyQ15 as P

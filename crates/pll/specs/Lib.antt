@@ -1,0 +1,4 @@
+pub mod State
+pub mod Fit
+pub mod Gains
+pub mod Records
