@@ -233,7 +233,7 @@ fn of_stereo(cos: &[f32], x: Case) -> u64 {
     }
 }
 
-pub fn answer(cos: &[f32], cos_q15: &[i16], x: Case) -> u64 {
+pub(crate) fn answer(cos: &[f32], cos_q15: &[i16], x: Case) -> u64 {
     if x.function <= names::ADVANCE {
         of_phase(cos, cos_q15, x)
     } else {

@@ -331,7 +331,7 @@ fn blocks_of(cos: &[f32]) {
     );
 }
 
-pub fn run(cos: &[f32]) {
+pub(crate) fn run(cos: &[f32]) {
     increments();
     constructions();
     sets();

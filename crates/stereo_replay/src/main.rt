@@ -40,6 +40,6 @@ fn main() {
     samples::fill_q15(samples::TABLE_Q15, &mut cos_q15);
     let t = replay(fd, &cos, &cos_q15);
     libc::close(fd);
-    tally::report(t);
+    lines::tally::report(t, &names::NAMES);
     cases::run(&cos);
 }
