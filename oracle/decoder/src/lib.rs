@@ -2,3 +2,4 @@
 
 pub mod answers;
 pub mod inputs;
+pub mod samples;

@@ -1,0 +1,3 @@
+// Document 01's other cases.
+pub(crate) fn run() {
+}
