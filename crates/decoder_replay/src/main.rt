@@ -11,6 +11,7 @@ mod names;
 mod samples;
 mod session_f32;
 mod session_q15;
+mod show;
 mod words12;
 
 // A proved loop has to end, and nothing says that a file does: so the loop counts its turns down,
