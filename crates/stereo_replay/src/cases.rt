@@ -85,11 +85,7 @@ fn level(x: f32) {
 // as a pattern.
 fn set(name: &[u8], to: f32) {
     line(name);
-    let enc = StereoEncode {
-        nco: Nco { phase: 1, inc: 2 },
-        main: 0.5,
-        pilot: 0.125,
-    };
+    let enc = encoder();
     match enc.set_pilot(to) {
         SetEncode::Done(e) => level(e.pilot),
         SetEncode::Refused(n, e) => {
@@ -150,23 +146,38 @@ fn matrix_q15(name: &[u8], sum: &[i16], difference: &[i16], left: &mut [i16], ri
     done();
 }
 
-// Both encoders, at phase 1 with the increment 2; the next phase of each follows.
-fn encoders(name: &[u8], table: &[f32], left: &[f32], right: &[f32], rds: &[f32], out: &mut [f32]) {
-    line(name);
-    let enc = StereoEncode {
+// An encoder at phase 1 with the increment 2.
+fn encoder() -> StereoEncode {
+    StereoEncode {
         nco: Nco { phase: 1, inc: 2 },
         main: 0.5,
         pilot: 0.125,
-    };
-    let plain = enc.encode(table, left, right, out);
-    let a = plain.answer;
+    }
+}
+
+// Both encoders, on a left slice of four samples; the next phase of each follows.
+fn plain(table: &[f32], right: &[f32], out: &mut [f32]) {
+    let left = [0.5f32; 4];
+    let reply = encoder().encode(table, &left, right, out);
+    let a = reply.answer;
     said(a);
-    number(plain.encoder.nco.phase as u64);
-    let with_rds = StereoEncodeRds { enc, rds: 0.125 };
-    let reply = with_rds.encode(table, left, right, rds, out);
-    let b = reply.answer;
-    said(b);
+    number(reply.encoder.nco.phase as u64);
+}
+
+fn with_rds(table: &[f32], right: &[f32], rds: &[f32], out: &mut [f32]) {
+    let left = [0.5f32; 4];
+    let enc = encoder();
+    let e = StereoEncodeRds { enc, rds: 0.125 };
+    let reply = e.encode(table, &left, right, rds, out);
+    let a = reply.answer;
+    said(a);
     number(reply.encoder.enc.nco.phase as u64);
+}
+
+fn encoders(name: &[u8], table: &[f32], right: &[f32], rds: &[f32], out: &mut [f32]) {
+    line(name);
+    plain(table, right, out);
+    with_rds(table, right, rds, out);
     done();
 }
 
@@ -247,7 +258,7 @@ fn verdicts() {
     verdict(b"on air NaN:", 0.0 / 0.0);
 }
 
-fn matrices() {
+fn matrices_f32() {
     let four = [0.5f32; 4];
     let three = [0.5f32; 3];
     let mut a = [0.0f32; 4];
@@ -269,66 +280,51 @@ fn matrices() {
         &mut a,
         &mut short,
     );
-    let four_q15 = [5i16; 4];
-    let three_q15 = [5i16; 3];
-    let mut c = [0i16; 4];
-    let mut d = [0i16; 4];
-    let mut short_q15 = [0i16; 3];
-    matrix_q15(b"matrix Q15:", &four_q15, &four_q15, &mut c, &mut d);
+}
+
+fn matrices_q15() {
+    let four = [5i16; 4];
+    let three = [5i16; 3];
+    let mut a = [0i16; 4];
+    let mut b = [0i16; 4];
+    let mut short = [0i16; 3];
+    matrix_q15(b"matrix Q15:", &four, &four, &mut a, &mut b);
     matrix_q15(
         b"matrix Q15, difference short:",
-        &four_q15,
-        &three_q15,
-        &mut c,
-        &mut d,
+        &four,
+        &three,
+        &mut a,
+        &mut b,
     );
-    matrix_q15(
-        b"matrix Q15, left short:",
-        &four_q15,
-        &four_q15,
-        &mut short_q15,
-        &mut d,
-    );
+    matrix_q15(b"matrix Q15, left short:", &four, &four, &mut short, &mut b);
     matrix_q15(
         b"matrix Q15, right short:",
-        &four_q15,
-        &four_q15,
-        &mut c,
-        &mut short_q15,
+        &four,
+        &four,
+        &mut a,
+        &mut short,
     );
 }
 
-fn blocks_of(cos: &[f32]) {
+fn whole_blocks(cos: &[f32]) {
+    let four = [0.5f32; 4];
+    let mut out = [0.0f32; 4];
+    encoders(b"encoders:", cos, &four, &four, &mut out);
+    encoders(b"encoders, table of 4:", &four, &four, &four, &mut out);
+}
+
+fn short_inputs(cos: &[f32]) {
     let four = [0.5f32; 4];
     let three = [0.5f32; 3];
     let mut out = [0.0f32; 4];
+    encoders(b"encoders, right short:", cos, &three, &four, &mut out);
+    encoders(b"encoders, RDS short:", cos, &four, &three, &mut out);
+}
+
+fn short_output(cos: &[f32]) {
+    let four = [0.5f32; 4];
     let mut short = [0.0f32; 3];
-    encoders(b"encoders:", cos, &four, &four, &four, &mut out);
-    encoders(
-        b"encoders, table of 4:",
-        &four,
-        &four,
-        &four,
-        &four,
-        &mut out,
-    );
-    encoders(
-        b"encoders, right short:",
-        cos,
-        &four,
-        &three,
-        &four,
-        &mut out,
-    );
-    encoders(b"encoders, RDS short:", cos, &four, &four, &three, &mut out);
-    encoders(
-        b"encoders, output short:",
-        cos,
-        &four,
-        &four,
-        &four,
-        &mut short,
-    );
+    encoders(b"encoders, output short:", cos, &four, &four, &mut short);
 }
 
 pub(crate) fn run(cos: &[f32]) {
@@ -336,6 +332,9 @@ pub(crate) fn run(cos: &[f32]) {
     constructions();
     sets();
     verdicts();
-    matrices();
-    blocks_of(cos);
+    matrices_f32();
+    matrices_q15();
+    whole_blocks(cos);
+    short_inputs(cos);
+    short_output(cos);
 }
