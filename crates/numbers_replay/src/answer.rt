@@ -4,7 +4,7 @@ use lines::words;
 
 // Whether the arguments are words of the function's types. Where it has one argument the second
 // word is 0.
-pub fn is_typed(function: usize, a: u64, b: u64) -> bool {
+pub(crate) fn is_typed(function: usize, a: u64, b: u64) -> bool {
     match function {
         names::ROUND_SHIFT => words::is_u32(b),
         names::Q15_PRODUCT | names::Q15_MUL | names::Q15_ADD_SAT | names::Q15_SUB_SAT => {
@@ -72,7 +72,7 @@ fn float(function: usize, a: u64, b: u64) -> u64 {
     }
 }
 
-pub fn answer(function: usize, a: u64, b: u64) -> u64 {
+pub(crate) fn answer(function: usize, a: u64, b: u64) -> u64 {
     if function <= names::PHASE_THRICE {
         whole(function, a, b)
     } else {

@@ -1,6 +1,10 @@
 // A line of the list: a name in 16 columns, the words of two arguments and of the answer in 16
 // hexadecimal digits each, with a space before each word and a new line after the last.
+use crate::names::COUNT;
+use crate::names::NAMES;
 use lines::line::Hex;
+use lines::line::find;
+use lines::line::has;
 use lines::line::word;
 
 pub struct Case {
@@ -17,21 +21,12 @@ pub enum Read {
 
 // Whether the columns between the words are as they have to be.
 fn is_spaced(line: &[u8; 68]) -> bool {
-    if line[16] != b' ' {
-        return false;
-    }
-    if line[33] != b' ' {
-        return false;
-    }
-    if line[50] != b' ' {
-        return false;
-    }
-    line[67] == b'\n'
+    has(line, 16, b' ') & has(line, 33, b' ') & has(line, 50, b' ') & has(line, 67, b'\n')
 }
 
-pub fn parse(line: &[u8; 68]) -> Read {
-    let function = crate::names::find(line);
-    if function >= crate::names::COUNT {
+pub(crate) fn parse(line: &[u8; 68]) -> Read {
+    let function = find(line, &NAMES);
+    if function >= COUNT {
         return Read::Malformed;
     }
     if !is_spaced(line) {

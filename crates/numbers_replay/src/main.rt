@@ -33,5 +33,5 @@ fn main() {
     }
     let t = replay(fd);
     libc::close(fd);
-    tally::report(t);
+    lines::tally::report(t, &names::NAMES);
 }

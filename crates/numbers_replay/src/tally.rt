@@ -1,4 +1,4 @@
-// Reads the list line by line, judges each, and reports.
+// Reads the list line by line and judges each.
 use lines::tally::Tally;
 
 // The tally after one line.
@@ -21,7 +21,7 @@ fn judge(t: Tally, line: &[u8; 68]) -> Tally {
 }
 
 // Reads a line and judges it. A line that the file cuts short is malformed.
-pub fn next(fd: i32, t: Tally) -> Tally {
+pub(crate) fn next(fd: i32, t: Tally) -> Tally {
     let mut line = [b' '; 68];
     let n = io::read_full(fd, &mut line);
     if n == 68 {
@@ -32,18 +32,4 @@ pub fn next(fd: i32, t: Tally) -> Tally {
         out = lines::tally::refuse(t, &line);
     }
     lines::tally::end(out)
-}
-
-fn report_each(t: Tally) {
-    let mut k = 0;
-    while k < crate::names::COUNT {
-        let name = crate::names::name(k);
-        lines::tally::report_one(t, k, &name);
-        k += 1;
-    }
-}
-
-pub fn report(t: Tally) {
-    report_each(t);
-    lines::tally::report_all(t);
 }

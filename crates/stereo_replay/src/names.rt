@@ -36,39 +36,23 @@ pub const ENCODE_RDS: usize = 16;
 
 pub const COUNT: usize = 17;
 
-// A function's name as it begins a line, in 16 columns.
-pub fn name(k: usize) -> [u8; 16] {
-    match k {
-        COS_F32 => *b"cos_f32         ",
-        PAIR_C => *b"pair_c          ",
-        PAIR_S => *b"pair_s          ",
-        COS_Q15 => *b"cos_q15         ",
-        INTERP_Q15 => *b"interp_q15      ",
-        CORRECTION_PLAIN => *b"correction_plain",
-        CORRECTION_FAST => *b"correction_fast ",
-        INCREMENT_FOR => *b"increment_for   ",
-        ADVANCE => *b"advance         ",
-        ENCODE_NEW => *b"encode_new      ",
-        ENCODE_RDS_NEW => *b"encode_rds_new  ",
-        SET_PILOT => *b"set_pilot       ",
-        SET_RDS => *b"set_rds         ",
-        MATRIX_F32 => *b"matrix_f32      ",
-        MATRIX_Q15 => *b"matrix_q15      ",
-        ENCODE => *b"encode          ",
-        ENCODE_RDS => *b"encode_rds      ",
-        _ => *b"                ",
-    }
-}
-
-// The number of the function that a line names, or COUNT where there is none.
-pub fn find(line: &[u8; 119]) -> usize {
-    let mut k = 0;
-    while k < COUNT {
-        let known = name(k);
-        if lines::line::begins(line, &known) {
-            return k;
-        }
-        k += 1;
-    }
-    COUNT
-}
+// The names in this order, as they begin a line: 16 columns each.
+pub const NAMES: [u8; 272] = *b"\
+    cos_f32         \
+    pair_c          \
+    pair_s          \
+    cos_q15         \
+    interp_q15      \
+    correction_plain\
+    correction_fast \
+    increment_for   \
+    advance         \
+    encode_new      \
+    encode_rds_new  \
+    set_pilot       \
+    set_rds         \
+    matrix_f32      \
+    matrix_q15      \
+    encode          \
+    encode_rds      \
+";

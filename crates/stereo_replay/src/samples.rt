@@ -22,17 +22,17 @@ fn pattern(w: u64) -> u64 {
     v / 2147483648 * 2147483648 + (119 + v % 8) * 8388608 + v / 8 % 8388608
 }
 
-pub fn sample_f32(seed: u64, i: usize) -> f32 {
+pub(crate) fn sample_f32(seed: u64, i: usize) -> f32 {
     let n = seed % 4294967296 + (i % 65536) as u64;
     lines::words::f32_of(pattern(mixed(n)))
 }
 
-pub fn sample_q15(seed: u64, i: usize) -> i16 {
+pub(crate) fn sample_q15(seed: u64, i: usize) -> i16 {
     let n = seed % 4294967296 + (i % 65536) as u64;
     lines::words::i16_of(mixed(n))
 }
 
-pub fn fill_f32(seed: u64, out: &mut [f32]) {
+pub(crate) fn fill_f32(seed: u64, out: &mut [f32]) {
     let mut i = 0usize;
     while i < out.len() {
         out[i] = sample_f32(seed, i);
@@ -40,7 +40,7 @@ pub fn fill_f32(seed: u64, out: &mut [f32]) {
     }
 }
 
-pub fn fill_q15(seed: u64, out: &mut [i16]) {
+pub(crate) fn fill_q15(seed: u64, out: &mut [i16]) {
     let mut i = 0usize;
     while i < out.len() {
         out[i] = sample_q15(seed, i);
@@ -49,23 +49,23 @@ pub fn fill_q15(seed: u64, out: &mut [i16]) {
 }
 
 // Blocks of 16 samples.
-pub fn block_f32(seed: u64) -> [f32; 16] {
+pub(crate) fn block_f32(seed: u64) -> [f32; 16] {
     let mut out = [0.0f32; 16];
     fill_f32(seed, &mut out);
     out
 }
 
-pub fn block_q15(seed: u64) -> [i16; 16] {
+pub(crate) fn block_q15(seed: u64) -> [i16; 16] {
     let mut out = [0i16; 16];
     fill_q15(seed, &mut out);
     out
 }
 
 // The seed of the further slices of a line's block.
-pub fn second(seed: u64) -> u64 {
+pub(crate) fn second(seed: u64) -> u64 {
     seed % 4294967296 + 16
 }
 
-pub fn third(seed: u64) -> u64 {
+pub(crate) fn third(seed: u64) -> u64 {
     seed % 4294967296 + 32
 }

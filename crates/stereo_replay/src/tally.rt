@@ -1,4 +1,4 @@
-// Reads the list line by line, judges each, and reports.
+// Reads the list line by line and judges each.
 use lines::tally::Tally;
 
 // The tally after one line.
@@ -18,7 +18,7 @@ fn judge(cos: &[f32], cos_q15: &[i16], t: Tally, line: &[u8; 119]) -> Tally {
 }
 
 // Reads a line and judges it. A line that the file cuts short is malformed.
-pub fn next(fd: i32, cos: &[f32], cos_q15: &[i16], t: Tally) -> Tally {
+pub(crate) fn next(fd: i32, cos: &[f32], cos_q15: &[i16], t: Tally) -> Tally {
     let mut line = [b' '; 119];
     let n = io::read_full(fd, &mut line);
     if n == 119 {
@@ -29,18 +29,4 @@ pub fn next(fd: i32, cos: &[f32], cos_q15: &[i16], t: Tally) -> Tally {
         out = lines::tally::refuse(t, &line);
     }
     lines::tally::end(out)
-}
-
-fn report_each(t: Tally) {
-    let mut k = 0;
-    while k < crate::names::COUNT {
-        let name = crate::names::name(k);
-        lines::tally::report_one(t, k, &name);
-        k += 1;
-    }
-}
-
-pub fn report(t: Tally) {
-    report_each(t);
-    lines::tally::report_all(t);
 }

@@ -1,7 +1,7 @@
--- `lines::words::f32_of` is safe: a pattern that the test leaves is no NaN's. Assumes nothing.
+-- `lines::words::f32_of` meets its contract. Assumes nothing.
 use borrow.Author.Needs.{needs}
 use lib.Ieee.{binary32}
-use Rattle.lines.proofs.Floats.{not-nan-bits}
+use Rattle.lines.proofs.Floats.{nan-bits, not-nan-bits}
 use Rattle.lines.proofs.words.f32_of.Statement.{statement}
 use Rattle.lines.proofs.words.f32_of.Tie as tie
 
@@ -9,13 +9,13 @@ u32-of-requires : tie.Need-u32-of-requires
 u32-of-requires c κs = search needs
 
 returns : tie.Need-returns
-returns c = search needs
+returns c = rw (← c .before .u32-of .ensures) (nan-bits binary32 (c .before .u32-of .result) (c .if1 .taken))
 
 float-from-bits-result : tie.Need-float-from-bits-result
 float-from-bits-result c = not-nan-bits binary32 (c .before .u32-of .result) (c .if1 .left)
 
 returns-2 : tie.Need-returns-2
-returns-2 c = search needs
+returns-2 c = rw (c .before .u32-of .ensures)
 
 pub f32-of-spec : {M : Type 1} → statement M
 f32-of-spec = tie.close (tie.spec u32-of-requires returns float-from-bits-result returns-2)

@@ -1,18 +1,18 @@
--- `lines::words::f64_of` is safe: a pattern that the test leaves is no NaN's. Assumes nothing.
-use borrow.Author.Needs.{needs}
+-- `lines::words::f64_of` meets its contract. Assumes nothing.
+use mathlib.Core.Path.{refl}
 use lib.Ieee.{binary64}
-use Rattle.lines.proofs.Floats.{not-nan-bits}
+use Rattle.lines.proofs.Floats.{nan-bits, not-nan-bits}
 use Rattle.lines.proofs.words.f64_of.Statement.{statement}
 use Rattle.lines.proofs.words.f64_of.Tie as tie
 
 returns : tie.Need-returns
-returns c = search needs
+returns c = nan-bits binary64 (c .before .args .w) (c .if1 .taken)
 
 float-from-bits-result : tie.Need-float-from-bits-result
 float-from-bits-result c = not-nan-bits binary64 (c .before .args .w) (c .if1 .left)
 
 returns-2 : tie.Need-returns-2
-returns-2 c = search needs
+returns-2 c = refl
 
 pub f64-of-spec : {M : Type 1} → statement M
 f64-of-spec = tie.close (tie.spec returns float-from-bits-result returns-2)

@@ -1,17 +1,19 @@
--- `lines::words::word_f64` is safe: what is left after the test is no NaN. Assumes nothing.
-use borrow.Author.Needs.{needs}
-use Rattle.lines.proofs.Floats.{not-nan}
+-- `lines::words::word_f64` meets its contract. Assumes nothing.
+use mathlib.Core.Path.{refl}
+use lib.Ieee.{binary64}
+use Rattle.rounding.proofs.Own.{not-nan}
+use Rattle.lines.proofs.Floats.{nan-word}
 use Rattle.lines.proofs.words.word_f64.Statement.{statement}
 use Rattle.lines.proofs.words.word_f64.Tie as tie
 
 returns : tie.Need-returns
-returns c = search needs
+returns c = nan-word binary64 (c .before .args .x) (c .if1 .taken)
 
 float-to-bits-result : tie.Need-float-to-bits-result
 float-to-bits-result c = not-nan (c .before .args .x) (c .if1 .left)
 
 returns-2 : tie.Need-returns-2
-returns-2 c = search needs
+returns-2 c = refl
 
 pub word-f64-spec : {M : Type 1} → statement M
 word-f64-spec = tie.close (tie.spec returns float-to-bits-result returns-2)
