@@ -2,6 +2,8 @@
 //! times, ours over the original's. Both sides are in this one program and take turns, so that what
 //! else the machine does falls on both.
 
+mod decoder;
+
 use std::hint::black_box;
 use std::time::Instant;
 
@@ -316,4 +318,5 @@ fn main() {
         println!("encode      {n:5} {:.3}", encoder(n, false));
         println!("encode_rds  {n:5} {:.3}", encoder(n, true));
     }
+    decoder::run();
 }

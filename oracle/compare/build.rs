@@ -1,4 +1,4 @@
-//! Links the static libraries that `rt staticlib numbers_c` and `rt staticlib stereo_c` write.
+//! Links the static libraries that `rt staticlib` writes of numbers_c, stereo_c and decoder_c.
 
 use std::env;
 use std::path::PathBuf;
@@ -7,7 +7,7 @@ fn main() {
     let here = PathBuf::from(env::var("CARGO_MANIFEST_DIR").expect("cargo sets it"));
     let folder = here.join("../../target/staticlib");
     println!("cargo:rustc-link-search=native={}", folder.display());
-    for name in ["numbers_c", "stereo_c"] {
+    for name in ["numbers_c", "stereo_c", "decoder_c"] {
         let library = folder.join(format!("lib{name}.a"));
         println!("cargo:rerun-if-changed={}", library.display());
         if !library.is_file() {

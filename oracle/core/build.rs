@@ -26,6 +26,7 @@ const FILES: &[(&str, &[(&str, &str)])] = &[
 ];
 
 fn main() {
+    println!("cargo:rerun-if-changed=build.rs");
     println!("cargo:rerun-if-env-changed=SDRK_SRC");
     let Ok(given) = env::var("SDRK_SRC") else {
         eprintln!("SDRK_SRC is not set: give the folder of the original Rust (it holds crates/)");
@@ -59,5 +60,30 @@ fn module(root: &Path, (name, file): &(&str, &str)) -> String {
         std::process::exit(1);
     }
     println!("cargo:rerun-if-changed={}", path.display());
+    let path = if *file == HAND {
+        with_hand(&path)
+    } else {
+        path
+    };
     format!("#[path = {path:?}]\n#[rustfmt::skip]\npub mod {name};\n")
+}
+
+/// The file whose record's fields are private to it.
+const HAND: &str = "kernels/stereo.rs";
+
+/// A copy of that file with one line after it, which names src/kernels/hand.rs as a module inside
+/// it, so that a record can be filled in by hand. Nothing above the line changes.
+fn with_hand(path: &Path) -> PathBuf {
+    let here = PathBuf::from(env::var("CARGO_MANIFEST_DIR").expect("cargo sets it"));
+    let out = PathBuf::from(env::var("OUT_DIR").expect("cargo sets OUT_DIR"));
+    let hand = here.join("src/kernels/hand.rs");
+    println!("cargo:rerun-if-changed={}", hand.display());
+    let text = fs::read_to_string(path).expect("the file is there");
+    let copy = out.join("stereo_with_hand.rs");
+    fs::write(
+        &copy,
+        format!("{text}\n#[path = {hand:?}]\npub mod hand;\n"),
+    )
+    .expect("OUT_DIR can be written");
+    copy
 }

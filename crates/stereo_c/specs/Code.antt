@@ -1,8 +1,8 @@
 -- Answers in numbers, for C. Definitions only.
 use Prim.Native.Nat.{ℕ, _+_, _^_}
-use mathlib.Core.List.{List, [], _∷_}
+use mathlib.Core.List.{List}
 use lib.Ieee.{Float}
-use Rattle.blocks.specs.Answer.{Said, accepted, turned, lengths}
+use Rattle.words_c.specs.Words.{wordsOf}
 use Rattle.phase.specs.declared.oscillator.Increment.{Increment}
 use Rattle.phase.specs.declared.oscillator.Increment.the-variants as increment
 use Rattle.stereo.specs.Matrix.{Matrixed}
@@ -17,12 +17,6 @@ use Rattle.encode.specs.declared.rds.NewEncodeRds.{NewEncodeRds}
 use Rattle.encode.specs.declared.rds.NewEncodeRds.the-variants as newRds
 use Rattle.encode.specs.declared.rds.SetEncodeRds.{SetEncodeRds}
 use Rattle.encode.specs.declared.rds.SetEncodeRds.the-variants as setRds
-
--- ---- a block's answer in three words: 0, or 100 and the cause's number; then the two lengths, 0 where there are none
-abbrev pub wordsOf : Said → List ℕ
-wordsOf accepted = 0 ∷ 0 ∷ 0 ∷ []
-wordsOf (turned n) = (100 + n) ∷ 0 ∷ 0 ∷ []
-wordsOf (lengths n first at) = (100 + n) ∷ first ∷ at ∷ []
 
 -- ---- an increment is itself; a refusal is 2^32 and its number, which no increment reaches
 abbrev pub refusedAs : ℕ → ℕ

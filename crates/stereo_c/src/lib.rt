@@ -1,7 +1,6 @@
 // Lookup, correction, oscillator, matrix, encoders and verdict under C names, for a program in
 // Rust or C to call. A slice is a pointer and then a length. An enum has no form in C: answers
 // are numbers, as specs/Code.antt defines them. A record's fields come in as numbers.
-use blocks::answer::Answer;
 use encode::encode::NewEncode;
 use encode::encode::SetEncode;
 use encode::encode::StereoEncode;
@@ -10,8 +9,8 @@ use encode::rds::SetEncodeRds;
 use encode::rds::StereoEncodeRds;
 use phase::oscillator::Increment;
 use phase::oscillator::Nco;
+use words_c::words;
 ghost use mathlib.Core.Path.{_≡_};
-ghost use Rattle.blocks.specs.Answer.{says};
 ghost use Rattle.phase.specs.Lookup.{cosF32, pairF32, cosQ15};
 ghost use Rattle.phase.specs.Correction.{correctionOf};
 ghost use Rattle.phase.specs.Oscillator.{incrementOf, advanceOf};
@@ -19,7 +18,7 @@ ghost use Rattle.stereo.specs.Matrix.{matrixF32, matrixQ15};
 ghost use Rattle.stereo.specs.Verdict.{onAirOf};
 ghost use Rattle.encode.specs.Encode.{newEncodeOf, withRds, setPilotOf, setRdsOf};
 ghost use Rattle.encode.specs.Encode.{encodeOf, encodeRdsOf};
-ghost use Rattle.stereo_c.specs.Code.{wordsOf, incrementCode, newCode, newRdsCode};
+ghost use Rattle.stereo_c.specs.Code.{incrementCode, newCode, newRdsCode};
 ghost use Rattle.stereo_c.specs.Code.{setPilotInC, setRdsInC};
 ghost use Rattle.stereo_c.specs.Code.{matrixedInC, encodedInC, encodedRdsInC};
 
@@ -101,19 +100,6 @@ pub extern "C" fn pescrondilu_on_air(frequency: f64, amplitude: f32) -> bool
     ensures { λ r. ⌜ r ≡ onAirOf frequency amplitude ⌝ }
 {
     stereo::verdict::on_air(frequency, amplitude)
-}
-
-// A block's answer in three words.
-fn words(a: Answer) -> [usize; 3]
-    ensures { λ r. ⌜ r ≡ wordsOf (says a) ⌝ }
-{
-    match a {
-        Answer::Accepted => [0, 0, 0],
-        Answer::Unfit => [100, 0, 0],
-        Answer::Table(n) => [109, 4097, n],
-        Answer::Input(first, n) => [110, first, n],
-        Answer::Output(first, n) => [111, first, n],
-    }
 }
 
 #[no_mangle]

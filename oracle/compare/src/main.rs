@@ -4,11 +4,15 @@
 //!     compare numbers [N]   for each number helper the boundaries, N random inputs and, of a
 //!                           float, N NaNs; N is 4000000 where it is not given
 //!     compare stereo        lookup, correction, oscillator, matrix, encoders and verdict
+//!     compare decoder [N]   the decoder: constructions, and N sessions of each kind (20000)
 //!     compare every         every input of each function whose arguments have 32 bits in all
 //!     compare every-stereo  every f32 of the corrections, every pair of the Q15 matrix
 
+mod decoder;
 mod ours;
+mod ours_decoder;
 mod ours_stereo;
+mod part;
 mod stereo;
 
 use numbers_oracle::edges::edges;
@@ -121,7 +125,7 @@ fn numbers(compare: impl Fn(&'static Function) -> bool) -> bool {
 }
 
 fn usage() -> ! {
-    eprintln!("usage: compare [numbers [N] | stereo | every | every-stereo]");
+    eprintln!("usage: compare [numbers [N] | stereo | decoder [N] | every | every-stereo]");
     std::process::exit(2);
 }
 
@@ -129,15 +133,17 @@ fn main() {
     let mut arguments = std::env::args().skip(1);
     let (what, count) = (arguments.next(), arguments.next());
     let count = match count.map(|n| n.parse::<u64>()) {
-        None => 4_000_000,
-        Some(Ok(n)) => n,
+        None => None,
+        Some(Ok(n)) => Some(n),
         Some(Err(_)) => usage(),
     };
-    let some = |f| compare_some(f, count);
+    let some = |f| compare_some(f, count.unwrap_or(4_000_000));
+    let decoder = || decoder::compare(count.unwrap_or(20_000));
     let equal = match what.as_deref() {
-        None => numbers(some) & stereo::compare(),
+        None => numbers(some) & stereo::compare() & decoder(),
         Some("numbers") => numbers(some),
         Some("stereo") => stereo::compare(),
+        Some("decoder") => decoder(),
         Some("every") => numbers(compare_every),
         Some("every-stereo") => stereo::every_correction() & stereo::every_matrix_q15(),
         Some(_) => usage(),

@@ -1,104 +1,14 @@
 //! Lookup, correction, oscillator, matrix, encoders and verdict, compared with the original.
 
-use std::collections::BTreeMap;
-
 use numbers_oracle::answers::{word_f32, word_i16};
-use stereo_oracle::answers::{self, ACCEPTED, SIDES, Said, TABLE};
+use stereo_oracle::answers::{self, SIDES, TABLE};
 use stereo_oracle::inputs::{Inputs, Limits, corrections, limits};
 
 use crate::ours_stereo as ours;
-
-/// Differences of one part that are printed; the others are counted.
-const SHOWN: u64 = 5;
+use crate::part::Part;
 
 /// Lengths of the blocks.
 const LENGTHS: [usize; 7] = [0, 1, 2, 63, 64, 65, 4096];
-
-struct Part {
-    name: &'static str,
-    cases: u64,
-    // of blocks: the output samples compared
-    samples: u64,
-    // how many of our answers are a refusal, by its number
-    refused: BTreeMap<u64, u64>,
-    differences: u64,
-}
-
-impl Part {
-    fn new(name: &'static str) -> Self {
-        Part {
-            name,
-            cases: 0,
-            samples: 0,
-            refused: BTreeMap::new(),
-            differences: 0,
-        }
-    }
-
-    /// Counts an answer that is a refusal.
-    fn refused(&mut self, number: u64) {
-        *self.refused.entry(number).or_default() += 1;
-    }
-
-    /// Counts a block's answer if it is a refusal.
-    fn said(&mut self, said: Said) {
-        if said != ACCEPTED {
-            self.refused(said[0] as u64 - 100);
-        }
-    }
-
-    /// Counts an increment's code if it is a refusal.
-    fn code(&mut self, code: u64) {
-        if code >= answers::REFUSED {
-            self.refused(code - answers::REFUSED);
-        }
-    }
-
-    fn differ(&mut self, text: String) {
-        self.differences += 1;
-        if self.differences <= SHOWN {
-            println!("{}: {text}", self.name);
-        }
-    }
-
-    /// One case. `inputs` is asked only where the answers differ.
-    fn same<T: PartialEq + std::fmt::Debug>(
-        &mut self,
-        expected: T,
-        got: T,
-        inputs: impl Fn() -> String,
-    ) {
-        self.cases += 1;
-        if got != expected {
-            self.differ(format!("{}: {expected:x?}, ours {got:x?}", inputs()));
-        }
-    }
-
-    /// A block's output, word by word; no case of its own.
-    fn same_words(&mut self, expected: &[u64], got: &[u64], inputs: impl Fn(usize) -> String) {
-        if expected.len() != got.len() {
-            self.differ(format!("lengths {} and {}", expected.len(), got.len()));
-        }
-        self.samples += expected.len() as u64;
-        for (i, (e, g)) in expected.iter().zip(got).enumerate() {
-            if e != g {
-                self.differ(format!("{}: {e:x}, ours {g:x}", inputs(i)));
-            }
-        }
-    }
-
-    fn report(&self) -> bool {
-        print!("{:16} {} cases", self.name, self.cases);
-        if self.samples > 0 {
-            print!(" of {} samples", self.samples);
-        }
-        for (number, count) in &self.refused {
-            print!(", {count} refused by {number}");
-        }
-        println!(", {} differences", self.differences);
-        self.differences == 0
-    }
-}
 
 fn lookups() -> bool {
     let mut r = Inputs::new(3);

@@ -1,7 +1,7 @@
--- `stereo_c::words` meets its contract: each arm returns the words of what the enum says. Assumes nothing.
+-- `words_c::words` meets its contract: each arm returns the words of what the enum says. Assumes nothing.
 use borrow.Author.Needs.{needs}
-use Rattle.stereo_c.proofs.words.Statement.{statement}
-use Rattle.stereo_c.proofs.words.Tie as tie
+use Rattle.words_c.proofs.words.Statement.{statement}
+use Rattle.words_c.proofs.words.Tie as tie
 
 enum-told : tie.Need-enum-told
 enum-told c = search needs

@@ -1,0 +1,323 @@
+//! How long our decoder's blocks take beside the original's: the fast one beside `Fallback`, the
+//! plain one beside `Reference`.
+
+use std::hint::black_box;
+
+use sdrk_core::error::Error;
+use sdrk_core::kernels::stereo::{StereoPll, StereoPllState, hand};
+use sdrk_core::probe::{self, Fields};
+use sdrk_core::tables::{COS_F32, COS_Q15};
+use sdrk_core::timing::Rate;
+use sdrk_core::types::{C32, CQ15, Q15, RealSample};
+use sdrk_core::{Fallback, Reference};
+
+use crate::{Said, Staggered, ratio, wave, wave_q15};
+
+type Block<V, S> = unsafe extern "C" fn(
+    values: &mut [V; 8],
+    phases: &mut [u32; 2],
+    switches: &mut [bool; 2],
+    table: *const S,
+    table_n: usize,
+    mpx: *const S,
+    mpx_n: usize,
+    pilot: *const S,
+    pilot_n: usize,
+    sum: *mut S,
+    sum_n: usize,
+    difference: *mut S,
+    difference_n: usize,
+    said: &mut Said,
+);
+
+macro_rules! declare {
+    ($name:ident, $value:ty, $sample:ty) => {
+        unsafe extern "C" {
+            fn $name(
+                values: &mut [$value; 8],
+                phases: &mut [u32; 2],
+                switches: &mut [bool; 2],
+                table: *const $sample,
+                table_n: usize,
+                mpx: *const $sample,
+                mpx_n: usize,
+                pilot: *const $sample,
+                pilot_n: usize,
+                sum: *mut $sample,
+                sum_n: usize,
+                difference: *mut $sample,
+                difference_n: usize,
+                said: &mut Said,
+            );
+        }
+    };
+}
+
+declare!(pescrondilu_plain_f32, f32, f32);
+declare!(pescrondilu_fast_f32, f32, f32);
+declare!(pescrondilu_plain_q15, i64, i16);
+declare!(pescrondilu_fast_q15, i64, i16);
+
+/// Our block and the original's that it is compared with.
+#[derive(Clone, Copy, PartialEq)]
+enum Way {
+    Plain,
+    Fast,
+}
+
+/// What the pilot is.
+#[derive(Clone, Copy, PartialEq)]
+enum Pilot {
+    Clean,
+    OneNan,
+    Disabled,
+}
+
+/// What the timing needs of a format.
+trait Timed: RealSample {
+    type Value: Copy + PartialEq + std::fmt::Debug;
+    type Raw: Copy + PartialEq + std::fmt::Debug + 'static;
+    fn ours(way: Way) -> Block<Self::Value, Self::Raw>;
+    fn original(
+        way: Way,
+        state: &mut StereoPllState<Self>,
+        mpx: &[Self],
+        pilot: &[Self],
+        output: &mut [Self::Complex],
+    ) -> Result<(), Error>;
+    fn fields(state: &StereoPllState<Self>) -> Fields<Self::Value>;
+    /// The decoder with levels so low that every level is stereo.
+    fn in_stereo(state: &StereoPllState<Self>) -> StereoPllState<Self>;
+    fn table() -> &'static [Self::Raw];
+    fn mpx(i: usize) -> Self;
+    /// A pilot at phase p that locks: a part of the table's sine.
+    fn pilot(p: u32) -> Self;
+    fn nan() -> Self;
+    fn raw(self) -> Self::Raw;
+    fn parts(c: Self::Complex) -> (Self::Raw, Self::Raw);
+    fn zero() -> Self::Complex;
+}
+
+const QUARTER: u32 = 1 << 30;
+
+impl Timed for f32 {
+    type Value = f32;
+    type Raw = f32;
+
+    fn ours(way: Way) -> Block<f32, f32> {
+        match way {
+            Way::Plain => pescrondilu_plain_f32,
+            Way::Fast => pescrondilu_fast_f32,
+        }
+    }
+
+    fn original(
+        way: Way,
+        state: &mut StereoPllState<f32>,
+        mpx: &[f32],
+        pilot: &[f32],
+        output: &mut [C32],
+    ) -> Result<(), Error> {
+        match way {
+            Way::Plain => Reference.stereo_pll(state, mpx, pilot, output),
+            Way::Fast => Fallback.stereo_pll(state, mpx, pilot, output),
+        }
+    }
+
+    fn fields(state: &StereoPllState<f32>) -> Fields<f32> {
+        probe::fields_f32(state)
+    }
+
+    fn in_stereo(state: &StereoPllState<f32>) -> StereoPllState<f32> {
+        let f = probe::fields_f32(state);
+        hand::state_f32(Fields {
+            on: -1.0,
+            off: -1.0,
+            ..f
+        })
+    }
+
+    fn table() -> &'static [f32] {
+        &COS_F32
+    }
+
+    fn mpx(i: usize) -> f32 {
+        wave(i)
+    }
+
+    fn pilot(p: u32) -> f32 {
+        0.1 * probe::interp_f32(p.wrapping_sub(QUARTER)).expect("the table has 4097 entries")
+    }
+
+    fn nan() -> f32 {
+        f32::NAN
+    }
+
+    fn raw(self) -> f32 {
+        self
+    }
+
+    fn parts(c: C32) -> (f32, f32) {
+        (c.re, c.im)
+    }
+
+    fn zero() -> C32 {
+        C32::new(0.0, 0.0)
+    }
+}
+
+impl Timed for Q15 {
+    type Value = i64;
+    type Raw = i16;
+
+    fn ours(way: Way) -> Block<i64, i16> {
+        match way {
+            Way::Plain => pescrondilu_plain_q15,
+            Way::Fast => pescrondilu_fast_q15,
+        }
+    }
+
+    fn original(
+        way: Way,
+        state: &mut StereoPllState<Q15>,
+        mpx: &[Q15],
+        pilot: &[Q15],
+        output: &mut [CQ15],
+    ) -> Result<(), Error> {
+        match way {
+            Way::Plain => Reference.stereo_pll(state, mpx, pilot, output),
+            Way::Fast => Fallback.stereo_pll(state, mpx, pilot, output),
+        }
+    }
+
+    fn fields(state: &StereoPllState<Q15>) -> Fields<i64> {
+        probe::fields_q15(state)
+    }
+
+    fn in_stereo(state: &StereoPllState<Q15>) -> StereoPllState<Q15> {
+        let f = probe::fields_q15(state);
+        hand::state_q15(Fields {
+            on: -(1 << 62),
+            off: -(1 << 62),
+            ..f
+        })
+    }
+
+    fn table() -> &'static [i16] {
+        &COS_Q15
+    }
+
+    fn mpx(i: usize) -> Q15 {
+        Q15(wave_q15(i))
+    }
+
+    fn pilot(p: u32) -> Q15 {
+        let s = probe::interp_q15(p.wrapping_sub(QUARTER)).expect("the table has 4097 entries");
+        Q15((s / 3) as i16)
+    }
+
+    /// Q15 has no NaN.
+    fn nan() -> Q15 {
+        Q15(0)
+    }
+
+    fn raw(self) -> i16 {
+        self.0
+    }
+
+    fn parts(c: CQ15) -> (i16, i16) {
+        (c.re.0, c.im.0)
+    }
+
+    fn zero() -> CQ15 {
+        CQ15 {
+            re: Q15(0),
+            im: Q15(0),
+        }
+    }
+}
+
+/// Six turns of it are 64 samples at the rate of 192000, so that a block fits its successor.
+const PILOT_HZ: f64 = 18000.0;
+
+fn block<F: Timed>(way: Way, pilot: Pilot, n: usize) -> f64 {
+    let made = StereoPllState::<F>::new(PILOT_HZ, 20.0, 0.1, Rate(192000.0));
+    let mut state = F::in_stereo(&made.expect("accepted"));
+    state.set_enabled(pilot != Pilot::Disabled);
+    let f = F::fields(&state);
+    let mut values = [f.kp, f.ki, f.imax, f.beta, f.on, f.off, f.integ, f.level];
+    let (mut phases, mut switches) = ([f.step0, f.phase], [f.stereo, f.enabled]);
+    let at = |i: usize| match pilot {
+        Pilot::OneNan if i == n / 2 => F::nan(),
+        _ => F::pilot(f.step0.wrapping_mul(i as u32)),
+    };
+    let table = black_box(F::table());
+    let mpx = Staggered::new(0, n, |i| F::mpx(i).raw());
+    let pilots = Staggered::new(1, n, |i| at(i).raw());
+    let mut sum = Staggered::new(2, n, |i| F::mpx(i).raw());
+    let mut difference = Staggered::new(3, n, |i| F::mpx(i).raw());
+    let their_mpx = Staggered::new(4, n, F::mpx);
+    let their_pilots = Staggered::new(5, n, at);
+    let mut output = Staggered::new(6, n, |_| F::zero());
+    let call = F::ours(way);
+    let answer = ratio(
+        n,
+        || {
+            let (x, p) = (black_box(mpx.get()), black_box(pilots.get()));
+            let (s, d) = (sum.get_mut(), difference.get_mut());
+            let mut said = [9; 3];
+            // SAFETY: a pointer and a length are those of one slice; the slices do not overlap.
+            unsafe {
+                call(
+                    &mut values,
+                    &mut phases,
+                    &mut switches,
+                    table.as_ptr(),
+                    table.len(),
+                    x.as_ptr(),
+                    x.len(),
+                    p.as_ptr(),
+                    p.len(),
+                    s.as_mut_ptr(),
+                    s.len(),
+                    d.as_mut_ptr(),
+                    d.len(),
+                    &mut said,
+                );
+            }
+            assert_eq!(black_box(said), [0; 3]);
+        },
+        || {
+            let (x, p) = (black_box(their_mpx.get()), black_box(their_pilots.get()));
+            let done = F::original(way, &mut state, x, p, output.get_mut());
+            assert!(black_box(done).is_ok());
+        },
+    );
+    let f = F::fields(&state);
+    assert_eq!(phases, [f.step0, f.phase]);
+    assert_eq!(switches, [f.stereo, f.enabled]);
+    assert_eq!((values[6], values[7]), (f.integ, f.level));
+    assert!(f.stereo, "the decision is stereo while the time is taken");
+    let theirs = output.get().iter().map(|c| F::parts(*c));
+    let ours = sum.get().iter().zip(difference.get());
+    assert!(ours.map(|(s, d)| (*s, *d)).eq(theirs));
+    answer
+}
+
+fn format<F: Timed>(n: usize, name: &str, pilots: &[(Pilot, &str)]) {
+    for (way, with) in [(Way::Fast, "fast"), (Way::Plain, "plain")] {
+        for (pilot, what) in pilots {
+            let r = block::<F>(way, *pilot, n);
+            println!("{with}_{name}, {what:9} {n:5} {r:.3}");
+        }
+    }
+}
+
+pub fn run() {
+    let q15 = [(Pilot::Clean, "clean"), (Pilot::Disabled, "disabled")];
+    let f32 = [q15[0], (Pilot::OneNan, "one NaN"), q15[1]];
+    for n in [64, 4096] {
+        format::<f32>(n, "f32", &f32);
+        format::<Q15>(n, "q15", &q15);
+    }
+}

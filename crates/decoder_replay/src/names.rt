@@ -1,0 +1,31 @@
+// The calls of the list, by number.
+
+pub const NEW_F32: usize = 0;
+
+pub const HAND_F32: usize = 1;
+
+pub const SET_F32: usize = 2;
+
+pub const BLOCK_F32: usize = 3;
+
+pub const NEW_Q15: usize = 4;
+
+pub const HAND_Q15: usize = 5;
+
+pub const SET_Q15: usize = 6;
+
+pub const BLOCK_Q15: usize = 7;
+
+pub const COUNT: usize = 8;
+
+// The names in this order, as they begin a line: 16 columns each.
+pub const NAMES: [u8; 128] = *b"\
+    new_f32         \
+    hand_f32        \
+    set_f32         \
+    block_f32       \
+    new_q15         \
+    hand_q15        \
+    set_q15         \
+    block_q15       \
+";

@@ -1,0 +1,284 @@
+//! The decoder's constructions and sessions, compared with the original.
+
+use decoder_oracle::answers::{self, Arguments, Block, Call, Format, Outcome, field_words};
+use decoder_oracle::inputs::{self, Drawn};
+use sdrk_core::kernels::stereo::StereoPllState;
+use sdrk_core::probe::Fields;
+use sdrk_core::types::Q15;
+use stereo_oracle::answers::{Side, TABLE};
+use stereo_oracle::inputs::Inputs;
+
+use crate::ours_decoder::{Ours, Record, Way};
+use crate::part::Part;
+
+/// What a format adds to a session.
+trait Compared: Ours + Drawn {
+    /// Whether the fast original may leave another state than the plain one after this block.
+    fn may_differ(state: &StereoPllState<Self>, b: &Block<Self::Sample>) -> bool;
+}
+
+impl Compared for f32 {
+    fn may_differ(_: &StereoPllState<f32>, _: &Block<f32>) -> bool {
+        false
+    }
+}
+
+impl Compared for Q15 {
+    fn may_differ(state: &StereoPllState<Q15>, b: &Block<i16>) -> bool {
+        answers::stops(state, b)
+    }
+}
+
+/// Where two outcomes differ.
+fn difference(expected: &Outcome, got: &Outcome) -> String {
+    if expected.said != got.said {
+        return format!("said {:?}, ours {:?}", expected.said, got.said);
+    }
+    let lists = [
+        ("sum", &expected.sum[..], &got.sum[..]),
+        ("difference", &expected.difference[..], &got.difference[..]),
+        ("field", &expected.fields[..], &got.fields[..]),
+        ("read-out", &expected.reads[..], &got.reads[..]),
+    ];
+    for (name, e, g) in lists {
+        if e.len() != g.len() {
+            return format!("{name}: lengths {} and {}", e.len(), g.len());
+        }
+        if let Some(i) = (0..e.len()).find(|i| e[*i] != g[*i]) {
+            return format!("{name} {i}: {:x}, ours {:x}", e[i], g[i]);
+        }
+    }
+    "nowhere".into()
+}
+
+/// Our two decoders and the original's two over one list of calls.
+struct Session<'a, F: Compared> {
+    part: &'a mut Part,
+    /// how the session began, for a difference that is printed
+    begun: String,
+    calls: u64,
+    plain: Record<F>,
+    fast: Record<F>,
+    reference: StereoPllState<F>,
+    fallback: StereoPllState<F>,
+}
+
+impl<'a, F: Compared> Session<'a, F> {
+    fn new(part: &'a mut Part, begun: String, fields: Fields<F::Value>) -> Self {
+        Session {
+            part,
+            begun,
+            calls: 0,
+            plain: Record::from(fields),
+            fast: Record::from(fields),
+            reference: F::state(fields),
+            fallback: F::state(fields),
+        }
+    }
+
+    fn fields(&self) -> Fields<F::Value> {
+        F::fields(&self.fallback)
+    }
+
+    /// What the original answers: the plain implementation where it takes the record, else the
+    /// fast one, else the document's cause 0.
+    fn expected(&mut self, call: &Call<F::Sample>) -> Outcome {
+        let fields = self.fields();
+        if let Call::Block(b) = call
+            && !F::is_fit(&fields)
+        {
+            return answers::unfit::<F>(fields, b);
+        }
+        let before = self.reference;
+        let fast = answers::call(Side::Fallback, &mut self.fallback, call);
+        if matches!(call, Call::Block(_)) && !F::takes(Side::Reference, &fields) {
+            self.part.alone += 1;
+            self.reference = self.fallback;
+            return fast;
+        }
+        let plain = answers::call(Side::Reference, &mut self.reference, call);
+        if fast != plain {
+            let known = matches!(call, Call::Block(b) if F::may_differ(&before, b));
+            if known {
+                self.part.stopped += 1;
+            } else {
+                let text = difference(&plain, &fast);
+                self.part
+                    .differ(format!("{}: the original itself: {text}", self.begun));
+            }
+            self.fallback = self.reference;
+        }
+        plain
+    }
+
+    fn call(&mut self, call: &Call<F::Sample>) {
+        let expected = self.expected(call);
+        self.calls += 1;
+        for way in [Way::Plain, Way::Fast] {
+            let record = match way {
+                Way::Plain => &mut self.plain,
+                Way::Fast => &mut self.fast,
+            };
+            let got = record.call(way, call);
+            self.part.samples += (got.sum.len() + got.difference.len()) as u64;
+            self.part.said(got.said);
+            self.part.stereo += got.reads[3];
+            let (begun, calls) = (&self.begun, self.calls);
+            self.part.cases += 1;
+            if got != expected {
+                let text = difference(&expected, &got);
+                self.part
+                    .differ(format!("{begun}, call {calls}, {way:?}: {text}"));
+            }
+        }
+    }
+
+    /// Some calls, made for the state in which each of them finds the decoder.
+    fn go(&mut self, r: &mut Inputs) {
+        for _ in 0..4 + r.below(8) {
+            let call = inputs::call::<F>(r, &self.fields());
+            self.call(&call);
+        }
+    }
+}
+
+/// One construction, and whether it was accepted: the number, and every field of the record made,
+/// or of the old one where there is none.
+fn construct<F: Compared>(part: &mut Part, r: &mut Inputs, a: Arguments) -> bool {
+    let old = F::any_fields(r);
+    let mut record = Record::<F>::from(old);
+    let code = record.construct(a);
+    if code > 0 {
+        part.refused(code as u64);
+    }
+    let made = answers::new::<F>(a);
+    let fields = made.as_ref().map_or(old, F::fields);
+    let expected = (made.err().unwrap_or(0), field_words::<F>(&fields));
+    part.same(expected, (code, record.words()), || {
+        format!("{a:?} {:x?}", a.words())
+    });
+    code == 0
+}
+
+fn constructions<F: Compared>(name: &'static str, count: u64) -> bool {
+    let mut r = Inputs::new(12);
+    let mut part = Part::new(name);
+    for _ in 0..count {
+        let a = inputs::arguments(&mut r);
+        construct::<F>(&mut part, &mut r, a);
+    }
+    part.report()
+}
+
+/// Sessions of decoders that construction returned.
+fn constructed<F: Compared>(name: &'static str, count: u64) -> bool {
+    let mut r = Inputs::new(13);
+    let mut part = Part::new(name);
+    let mut made = 0;
+    while made < count {
+        let a = match made % 4 {
+            0 => inputs::arguments(&mut r),
+            _ => inputs::good_arguments(&mut r),
+        };
+        if let Ok(state) = answers::new::<F>(a) {
+            made += 1;
+            let mut s = Session::<F>::new(&mut part, format!("{a:?}"), F::fields(&state));
+            // the fresh record is our own, too
+            assert_eq!((s.plain.construct(a), s.fast.construct(a)), (0, 0));
+            s.go(&mut r);
+        }
+    }
+    part.report()
+}
+
+/// Sessions of records filled in by hand.
+fn by_hand<F: Compared>(name: &'static str, count: u64) -> bool {
+    let mut r = Inputs::new(14);
+    let mut part = Part::new(name);
+    for _ in 0..count {
+        let fields = F::any_fields(&mut r);
+        Session::<F>::new(&mut part, format!("{fields:?}"), fields).go(&mut r);
+    }
+    part.report()
+}
+
+/// A pilot that is finite but for one sample, at each place of a block.
+fn one_place() -> bool {
+    let mut r = Inputs::new(15);
+    let mut part = Part::new("one_not_finite");
+    for n in [1, 2, 63, 64, 65] {
+        for i in 0..n {
+            for k in 0..8 {
+                let a = inputs::good_arguments(&mut r);
+                let state = answers::new::<f32>(a).expect("good arguments are accepted");
+                let mut s = Session::<f32>::new(&mut part, format!("{a:?}"), f32::fields(&state));
+                let mut b = inputs::block_of::<f32>(&mut r, [TABLE, n, n, n, n], &s.fields());
+                b.table = (0..TABLE)
+                    .map(|i| (i as f32 / 4096.0 * std::f32::consts::TAU).cos())
+                    .collect();
+                b.pilot = (0..n).map(|_| r.ordinary_f32()).collect();
+                b.pilot[i] = match k {
+                    0 => f32::INFINITY,
+                    1 => f32::NEG_INFINITY,
+                    2 => f32::from_bits(0x7FC0_0000),
+                    3 => f32::from_bits(0xFFC0_0000),
+                    4 => f32::from_bits(0x7F80_0001),
+                    5 => f32::from_bits(0xFF80_0001),
+                    6 => f32::MAX,
+                    _ => inputs::not_finite(&mut r),
+                };
+                s.call(&Call::Block(b.clone()));
+                s.call(&Call::Block(b));
+            }
+        }
+    }
+    part.report()
+}
+
+/// Decoders near the largest f: docs/DIFFERENCES.md has the first one.
+fn near_the_top() -> bool {
+    let mut r = Inputs::new(16);
+    let mut part = Part::new("near_the_top");
+    for k in 0..2000 {
+        let a = Arguments {
+            pilot: 19000.0,
+            natural: 40.0,
+            level: 0.00117912543
+                * if k == 0 {
+                    1.0
+                } else {
+                    1.0 + r.below(1000) as f64 * 1e-12
+                },
+            beta: 0.5,
+            rate: 192000.0,
+        };
+        let state = answers::new::<Q15>(a).expect("accepted");
+        let mut s = Session::<Q15>::new(&mut part, format!("{a:?}"), Q15::fields(&state));
+        let n = 1 + k % 3;
+        let b = Block {
+            table: vec![-32768; TABLE],
+            mpx: vec![0; n],
+            pilot: vec![-32768; n],
+            sum: vec![9; n],
+            difference: vec![9; n],
+        };
+        s.call(&Call::Block(b));
+        s.go(&mut r);
+    }
+    if part.stopped == 0 {
+        part.differ("the two implementations of the original did not differ".into());
+    }
+    part.report()
+}
+
+/// All parts; whether there was no difference.
+pub fn compare(count: u64) -> bool {
+    constructions::<f32>("new_f32", 50 * count)
+        & constructions::<Q15>("new_q15", 50 * count)
+        & constructed::<f32>("sessions_f32", count)
+        & constructed::<Q15>("sessions_q15", count)
+        & by_hand::<f32>("by_hand_f32", count)
+        & by_hand::<Q15>("by_hand_q15", count)
+        & one_place()
+        & near_the_top()
+}

@@ -1,0 +1,112 @@
+//! One part of the comparison: its cases, its differences, how many calls each cause refused.
+
+use std::collections::BTreeMap;
+
+use stereo_oracle::answers::{self, ACCEPTED, Said};
+
+/// Differences of one part that are printed; the others are counted.
+const SHOWN: u64 = 5;
+
+pub struct Part {
+    name: &'static str,
+    pub cases: u64,
+    // of blocks: the output samples compared
+    pub samples: u64,
+    // decoder calls after which the decoder says stereo
+    pub stereo: u64,
+    // decoder blocks that the plain original does not take, so that the fast one answers alone
+    pub alone: u64,
+    // decoder blocks in which the two originals differ, where the plain one's rounding stops
+    pub stopped: u64,
+    // how many of our answers are a refusal, by its number
+    refused: BTreeMap<u64, u64>,
+    differences: u64,
+}
+
+impl Part {
+    pub fn new(name: &'static str) -> Self {
+        Part {
+            name,
+            cases: 0,
+            samples: 0,
+            stereo: 0,
+            alone: 0,
+            stopped: 0,
+            refused: BTreeMap::new(),
+            differences: 0,
+        }
+    }
+
+    /// Counts an answer that is a refusal.
+    pub fn refused(&mut self, number: u64) {
+        *self.refused.entry(number).or_default() += 1;
+    }
+
+    /// Counts a block's answer if it is a refusal.
+    pub fn said(&mut self, said: Said) {
+        if said != ACCEPTED {
+            self.refused(said[0] as u64 - 100);
+        }
+    }
+
+    /// Counts an increment's code if it is a refusal.
+    pub fn code(&mut self, code: u64) {
+        if code >= answers::REFUSED {
+            self.refused(code - answers::REFUSED);
+        }
+    }
+
+    pub fn differ(&mut self, text: String) {
+        self.differences += 1;
+        if self.differences <= SHOWN {
+            println!("{}: {text}", self.name);
+        }
+    }
+
+    /// One case. `inputs` is asked only where the answers differ.
+    pub fn same<T: PartialEq + std::fmt::Debug>(
+        &mut self,
+        expected: T,
+        got: T,
+        inputs: impl Fn() -> String,
+    ) {
+        self.cases += 1;
+        if got != expected {
+            self.differ(format!("{}: {expected:x?}, ours {got:x?}", inputs()));
+        }
+    }
+
+    /// A block's output, word by word; no case of its own.
+    pub fn same_words(&mut self, expected: &[u64], got: &[u64], inputs: impl Fn(usize) -> String) {
+        if expected.len() != got.len() {
+            self.differ(format!("lengths {} and {}", expected.len(), got.len()));
+        }
+        self.samples += expected.len() as u64;
+        for (i, (e, g)) in expected.iter().zip(got).enumerate() {
+            if e != g {
+                self.differ(format!("{}: {e:x}, ours {g:x}", inputs(i)));
+            }
+        }
+    }
+
+    pub fn report(&self) -> bool {
+        print!("{:16} {} cases", self.name, self.cases);
+        if self.samples > 0 {
+            print!(" of {} samples", self.samples);
+        }
+        for (number, count) in &self.refused {
+            print!(", {count} refused by {number}");
+        }
+        if self.stereo > 0 {
+            print!(", {} in stereo", self.stereo);
+        }
+        if self.alone > 0 {
+            print!(", {} by Fallback alone", self.alone);
+        }
+        if self.stopped > 0 {
+            print!(", {} where Fallback does not stop", self.stopped);
+        }
+        println!(", {} differences", self.differences);
+        self.differences == 0
+    }
+}
