@@ -76,7 +76,7 @@ at-exit y l = record { ptr = y .ptr; name = y .name; now = l }
 
 -- ---- the claim, over the format: A is its sample, D the decoder's record, R a block's reply, N construction's answer
 -- what a block's contract says: lifetimes, record, table, mpx, pilot, sum and difference output, then the reply and the two outputs at exit
-abbrev BlockPost : Type 0 → Type 0 → Type 0 → Type 1
+abbrev pub BlockPost : Type 0 → Type 0 → Type 0 → Type 1
 BlockPost A D R = Lfts 5 → D → RefT (List A) → RefT (List A) → RefT (List A) → RefT (List A) → RefT (List A) → R → RefT (List A) → RefT (List A) → Type 0
 
 -- a format's functions, by their contracts, and its machine

@@ -22,8 +22,10 @@ use Rattle.pll.specs.Records.{pllF32, pllQ15}
 use Rattle.decoder.specs.Calls.{Call, block, enable, disable, reset}
 use Rattle.pll.specs.declared.pll_f32.StereoPllF32.{StereoPllF32}
 use Rattle.pll.specs.declared.pll_q15.StereoPllQ15.{StereoPllQ15}
+use Rattle.decoder.specs.declared.parts_f32.ReplyF32.{ReplyF32}
+use Rattle.decoder.specs.declared.parts_q15.ReplyQ15.{ReplyQ15}
 use Rattle.decoder.proofs.Agreement.{Left, Contracts, Runs, lent, set}
-use Rattle.decoder.proofs.Demand.{Format, F32, Q15, plainly, fastly}
+use Rattle.decoder.proofs.Demand.{BlockPost, Format, F32, Q15, decoderBy, plainly, fastly}
 
 -- ---- an answer for each thing that the machine says
 one-rule : (n wanted : ℕ) (fault : Answer) → (a : Answer) × (says a ≡ lengthRule n wanted (says fault))
@@ -125,53 +127,48 @@ said-is : {A : Type 0} (F : Arithmetic A) (d : Pll A) (t x p y z : List A) (a : 
 unfolding blockOf
 said-is F d t x p y z a e = sym e
 
+-- a format's record and reply made from the machine's state and an answer; what a block's contract asks is the block's equation
+module _ {A D R N : Type 0} (K : Format A D R N) (make : Pll A → D) (reply : Answer → D → R) (B : BlockPost A D R) where
+  abbrev Equation : Type 0
+  Equation = (d : D) (t x p y z : List A) (a : Answer) → let b = blockOf (K .arithmetic) (K .state d) t x p y z in
+      _≡_ {A = Blocked A} (record { said = says a; sum = b .sum; difference = b .difference; pll = b .pll }) b
+      → let r = reply a (make (b .pll)) in
+      B lifetimes d (lent place t) (lent place x) (lent place p) (lent place y) (lent place z) r (lent place (b .sum)) (lent place (b .difference)) × (says a ≡ says (K .answer r)) × (make (b .pll) ≡ K .decoder r)
+
+  abbrev Sets : (D → D → Type 0) → (Pll A → Pll A) → Type 0
+  Sets S f = (d : D) → S d (make (f (K .state d)))
+
+  allows : Equation → Sets (K .enable) (enabledOf true) → Sets (K .disable) (enabledOf false) → Sets (K .reset) (resetOf (K .arithmetic .nought)) → Allows (K .arithmetic) (decoderBy K B)
+  allows equation enables disables resets = record {
+    make = make;
+    blocks = λ d t x p y z.
+        let F = K .arithmetic in
+        let m = K .state d in
+        let a = block-answer F m (length t) (length x) (length p) (length y) (length z) in
+        let e = equation d t x p y z (a .0) (replies F m t x p y z (a .0) (a .1)) in
+        (reply (a .0) (make (blockOf F m t x p y z .pll)), e .0, said-is F m t x p y z (a .0) (a .1) ∙ e .1, e .2);
+    enables = enables;
+    disables = disables;
+    resets = resets;
+  }
+
+allows-f32 : (B : BlockPost Float StereoPllF32 ReplyF32) → Equation F32 recordF32 (λ a d. record { answer = a; decoder = d }) B → Allows f32 (decoderBy F32 B)
+allows-f32 B e = allows F32 recordF32 (λ a d. record { answer = a; decoder = d }) B e (λ d. refl) (λ d. refl) (λ d. refl)
+
+allows-q15 : (B : BlockPost ℤ StereoPllQ15 ReplyQ15) → Equation Q15 recordQ15 (λ a d. record { answer = a; decoder = d }) B → Allows q15 (decoderBy Q15 B)
+allows-q15 B e = allows Q15 recordQ15 (λ a d. record { answer = a; decoder = d }) B e (λ d. refl) (λ d. refl) (λ d. refl)
+
 pub plainly-f32 : Allows f32 (plainly F32)
-plainly-f32 = record {
-  make = recordF32;
-  blocks = λ d t x p y z.
-      let a = block-answer f32 (pllF32 d) (length t) (length x) (length p) (length y) (length z) in
-      let b = blockOf f32 (pllF32 d) t x p y z in
-      (record { answer = a .0; decoder = recordF32 (b .pll) }, replies f32 (pllF32 d) t x p y z (a .0) (a .1), said-is f32 (pllF32 d) t x p y z (a .0) (a .1), refl);
-  enables = λ d. refl;
-  disables = λ d. refl;
-  resets = λ d. refl;
-}
+plainly-f32 = allows-f32 (F32 .plain) (λ d t x p y z a h. (h, refl, refl))
 
 pub fastly-f32 : Allows f32 (fastly F32)
-fastly-f32 = record {
-  make = recordF32;
-  blocks = λ d t x p y z.
-      let a = block-answer f32 (pllF32 d) (length t) (length x) (length p) (length y) (length z) in
-      let b = blockOf f32 (pllF32 d) t x p y z in
-      (record { answer = a .0; decoder = recordF32 (b .pll) }, replies f32 (pllF32 d) t x p y z (a .0) (a .1), said-is f32 (pllF32 d) t x p y z (a .0) (a .1), refl);
-  enables = λ d. refl;
-  disables = λ d. refl;
-  resets = λ d. refl;
-}
+fastly-f32 = allows-f32 (F32 .fast) (λ d t x p y z a h. (h, refl, refl))
 
 pub plainly-q15 : Allows q15 (plainly Q15)
-plainly-q15 = record {
-  make = recordQ15;
-  blocks = λ d t x p y z.
-      let a = block-answer q15 (pllQ15 d) (length t) (length x) (length p) (length y) (length z) in
-      let b = blockOf q15 (pllQ15 d) t x p y z in
-      (record { answer = a .0; decoder = recordQ15 (b .pll) }, replies q15 (pllQ15 d) t x p y z (a .0) (a .1), said-is q15 (pllQ15 d) t x p y z (a .0) (a .1), refl);
-  enables = λ d. refl;
-  disables = λ d. refl;
-  resets = λ d. refl;
-}
+plainly-q15 = allows-q15 (Q15 .plain) (λ d t x p y z a h. (h, refl, refl))
 
 pub fastly-q15 : Allows q15 (fastly Q15)
-fastly-q15 = record {
-  make = recordQ15;
-  blocks = λ d t x p y z.
-      let a = block-answer q15 (pllQ15 d) (length t) (length x) (length p) (length y) (length z) in
-      let b = blockOf q15 (pllQ15 d) t x p y z in
-      (record { answer = a .0; decoder = recordQ15 (b .pll) }, replies q15 (pllQ15 d) t x p y z (a .0) (a .1), said-is q15 (pllQ15 d) t x p y z (a .0) (a .1), refl);
-  enables = λ d. refl;
-  disables = λ d. refl;
-  resets = λ d. refl;
-}
+fastly-q15 = allows-q15 (Q15 .fast) (λ d t x p y z a h. (h, refl, refl))
 
 -- ---- construction does make decoders: pilot 16384 Hz, natural frequency 128 Hz, level 1, lock coefficient 1/2, rate 262144
 unfoldable pub some-gains : Gains

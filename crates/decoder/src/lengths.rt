@@ -7,7 +7,7 @@ ghost use mathlib.Core.Path.{_≡_};
 ghost use Rattle.blocks.specs.Answer.{says};
 ghost use Rattle.decoder.specs.Machine.{lengthsSay};
 
-pub fn block_lengths(
+pub(crate) fn block_lengths(
     table: usize,
     mpx: usize,
     pilot: usize,

@@ -25,13 +25,13 @@ pub struct ReplyF32 {
     pub decoder: StereoPllF32,
 }
 
-pub fn level_next(beta: f32, level: f32, q: f32) -> f32
+pub(crate) fn level_next(beta: f32, level: f32, q: f32) -> f32
     ensures { λ r. ⌜ r ≡ levelF32 beta level q ⌝ }
 {
     flush_denormal(level + beta * (q - level))
 }
 
-pub fn decided(level: f32, on: f32, off: f32, was: bool) -> bool
+pub(crate) fn decided(level: f32, on: f32, off: f32, was: bool) -> bool
     ensures { λ r. ⌜ r ≡ decide f32 level on off was ⌝ }
 {
     if level >= on {
@@ -43,39 +43,39 @@ pub fn decided(level: f32, on: f32, off: f32, was: bool) -> bool
     }
 }
 
-pub fn gathered(integ: f32, ki: f32, e: f32) -> f32
+pub(crate) fn gathered(integ: f32, ki: f32, e: f32) -> f32
     ensures { λ r. ⌜ r ≡ gatherF32 integ ki e ⌝ }
 {
     flush_denormal(integ + ki * e)
 }
 
-pub fn within(imax: f32, x: f32) -> f32
+pub(crate) fn within(imax: f32, x: f32) -> f32
     ensures { λ r. ⌜ r ≡ limited f32 imax x ⌝ }
 {
     let y = if x > imax { imax } else { x };
     if y < -imax { -imax } else { y }
 }
 
-pub fn demodulated(on: bool, x: f32, s2: f32) -> f32
+pub(crate) fn demodulated(on: bool, x: f32, s2: f32) -> f32
     ensures { λ r. ⌜ r ≡ cond on (Ieee.mul binary32 x s2) nought ⌝ }
 {
     if on { x * s2 } else { 0.0 }
 }
 
-pub fn moved(phase: u32, step0: u32, correction: u32) -> u32
+pub(crate) fn moved(phase: u32, step0: u32, correction: u32) -> u32
     ensures { λ r. ⌜ r ≡ (phase + step0 + correction) % 2 ^ 32 ⌝ }
 {
     std::num::wrapping_add_u32(std::num::wrapping_add_u32(phase, step0), correction)
 }
 
 // The error, the level and the decision where a pilot sample may not be finite.
-pub fn error_of(p: f32, c: f32) -> f32
+pub(crate) fn error_of(p: f32, c: f32) -> f32
     ensures { λ r. ⌜ r ≡ cond (finite p) (Ieee.mul binary32 p c) nought ⌝ }
 {
     if is_finite_f32(p) { p * c } else { 0.0 }
 }
 
-pub fn level_of(p: f32, s: f32, beta: f32, level: f32) -> f32
+pub(crate) fn level_of(p: f32, s: f32, beta: f32, level: f32) -> f32
     ensures { λ r. ⌜ r ≡ cond (finite p) (levelF32 beta level (Ieee.mul binary32 p s)) level ⌝ }
 {
     if is_finite_f32(p) {
@@ -85,7 +85,7 @@ pub fn level_of(p: f32, s: f32, beta: f32, level: f32) -> f32
     }
 }
 
-pub fn stereo_of(p: f32, level: f32, on: f32, off: f32, was: bool) -> bool
+pub(crate) fn stereo_of(p: f32, level: f32, on: f32, off: f32, was: bool) -> bool
     ensures { λ r. ⌜ r ≡ cond (finite p) (decide f32 level on off was) was ⌝ }
 {
     if is_finite_f32(p) {

@@ -30,7 +30,7 @@ pub struct ReplyQ15 {
     pub decoder: StereoPllQ15,
 }
 
-pub fn decided(level: i64, on: i64, off: i64, was: bool) -> bool
+pub(crate) fn decided(level: i64, on: i64, off: i64, was: bool) -> bool
     ensures { λ r. ⌜ r ≡ decide q15 level on off was ⌝ }
 {
     if level >= on {
@@ -53,7 +53,7 @@ pub(crate) fn within(imax: i64, x: i64) -> i64
 }
 
 // The difference output: the demodulated sample, or silence.
-pub fn selected(on: bool, difference: i16) -> i16
+pub(crate) fn selected(on: bool, difference: i16) -> i16
     ensures { λ r. ⌜ r ≡ cond on difference (pos 0) ⌝ }
 {
     if on { difference } else { 0 }

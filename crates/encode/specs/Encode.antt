@@ -72,13 +72,18 @@ abbrev pub rdsAt : StereoEncodeRds → ℕ → StereoEncodeRds
 rdsAt e p = record { enc = encodeAt (e .enc) p; rds = e .rds }
 
 -- ---- one sample, at the pilot's phase p
--- m and d are the sum and the difference of left and right, rounded, then halved; the products come first, then the sums from left to right
-unfoldable pub multiplexOf : List Float → Float → Float → ℕ → Float → Float → Float
-multiplexOf t main pilot p left right =
+-- sum and difference: m and d are the sum and the difference of left and right, rounded, then halved; d is on the subcarrier s2
+abbrev pub stereoOf : Float → Float → Float → Float → Float
+stereoOf main left right s2 =
     let half = fin false 1 (negsuc 0) in
     let m = mul binary32 (add binary32 left right) half in
     let d = mul binary32 (sub binary32 left right) half in
-    add binary32 (add binary32 (mul binary32 main m) (mul binary32 (mul binary32 main d) (cosF32 t (sineAt 2 p)))) (mul binary32 pilot (cosF32 t (sineAt 1 p)))
+    add binary32 (mul binary32 main m) (mul binary32 (mul binary32 main d) s2)
+
+-- plus the pilot; the products come first, then the sums from left to right
+unfoldable pub multiplexOf : List Float → Float → Float → ℕ → Float → Float → Float
+multiplexOf t main pilot p left right =
+    add binary32 (stereoOf main left right (cosF32 t (sineAt 2 p))) (mul binary32 pilot (cosF32 t (sineAt 1 p)))
 
 -- with RDS: plus (level times b) times s3
 unfoldable pub multiplexRdsOf : List Float → Float → Float → Float → ℕ → Float → Float → Float → Float

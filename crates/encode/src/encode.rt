@@ -14,14 +14,16 @@ use phase::oscillator::turn;
 ghost use mathlib.Core.Path.{_≡_};
 ghost use Prim.Native.Nat.{_+_, _*_, _%_, _^_};
 ghost use lib.ListN.{length, getD};
-ghost use lib.Ieee.{nan};
+ghost use lib.Ieee.{nan, binary32, add, mul};
 ghost use Rattle.blocks.specs.Answer.{says};
 ghost use Rattle.blocks.specs.Samples.{samples};
+ghost use Rattle.phase.specs.Lookup.{sineAt, cosF32};
 ghost use Rattle.encode.specs.Encode.{
   goodLevel,
   newEncodeOf,
   setPilotOf,
   encodeAt,
+  stereoOf,
   multiplexOf,
   phaseAt,
   encodeOf,
@@ -59,33 +61,94 @@ pub fn good_level(x: f32) -> bool
     if x >= 0.0 { x <= 0.2 } else { false }
 }
 
+// Sum and difference of one sample, the difference on the subcarrier s2.
+fn stereo_part(main: f32, left: f32, right: f32, s2: f32) -> f32
+    ensures { λ r. ⌜ r ≡ stereoOf main left right s2 ⌝ }
+{
+    let m = (left + right) * 0.5;
+    let d = (left - right) * 0.5;
+    main * m + (main * d) * s2
+}
+
 // One multiplex sample at the pilot's phase p.
 pub fn multiplex(table: &[f32], main: f32, pilot: f32, p: u32, left: f32, right: f32) -> f32
     ensures { λ r. ⌜ r ≡ multiplexOf (now (table .entry)) main pilot p left right ⌝ }
 {
     let s1 = cos_f32(table, sine_at(p));
     let s2 = cos_f32(table, sine_at_twice(p));
-    let m = (left + right) * 0.5;
-    let d = (left - right) * 0.5;
-    (main * m + (main * d) * s2) + pilot * s1
+    stereo_part(main, left, right, s2) + pilot * s1
 }
 
-// The samples in order; the next phase comes back.
-fn run(e: StereoEncode, table: &[f32], left: &[f32], right: &[f32], output: &mut [f32]) -> u32
-    requires { ⌜ (length (now right) ≡ length (now left)) × (length (now output) ≡ length (now left)) ⌝ }
-    ensures { λ r. ⌜ r ≡ phaseAt e (length (now (left .entry))) ⌝ ∗ ⌜ now (output .exit) ≡ samples (length (now (left .entry))) (λ i. multiplexOf (now (table .entry)) (e .main) (e .pilot) (phaseAt e i) (getD (now (left .entry)) i nan) (getD (now (right .entry)) i nan)) ⌝ }
+// The subcarrier of the difference at each sample.
+fn subcarrier(e: StereoEncode, table: &[f32], output: &mut [f32])
+    ensures { λ r. ⌜ now (output .exit) ≡ samples (length (now (output .entry))) (λ i. cosF32 (now (table .entry)) (sineAt 2 (phaseAt e i))) ⌝ }
 {
-    let mut p = e.nco.phase;
+    let mut at = e.nco.phase;
     let inc = e.nco.inc;
+    let mut i = 0usize;
+    while i < output.len() {
+        output[i] = cos_f32(table, sine_at_twice(at));
+        at = std::num::wrapping_add_u32(at, inc);
+        i += 1;
+    }
+}
+
+// Sum and difference of each sample. The output holds the subcarrier before.
+fn mix(main: f32, left: &[f32], right: &[f32], output: &mut [f32])
+    requires { ⌜ (length (now right) ≡ length (now left)) × (length (now output) ≡ length (now left)) ⌝ }
+    ensures { λ r. ⌜ now (output .exit) ≡ samples (length (now (left .entry))) (λ i. stereoOf main (getD (now (left .entry)) i nan) (getD (now (right .entry)) i nan) (getD (now (output .entry)) i nan)) ⌝ }
+{
     let mut i = 0usize;
     while i < left.len() {
         let l = left[i];
         let r = right[i];
-        output[i] = multiplex(table, e.main, e.pilot, p, l, r);
+        let s2 = output[i];
+        output[i] = stereo_part(main, l, r, s2);
+        i += 1;
+    }
+}
+
+// The pilot is added to each sample; the next phase comes back.
+fn add_pilot(e: StereoEncode, table: &[f32], output: &mut [f32]) -> u32
+    ensures { λ r. ⌜ r ≡ phaseAt e (length (now (output .entry))) ⌝ ∗ ⌜ now (output .exit) ≡ samples (length (now (output .entry))) (λ i. add binary32 (getD (now (output .entry)) i nan) (mul binary32 (e .pilot) (cosF32 (now (table .entry)) (sineAt 1 (phaseAt e i))))) ⌝ }
+{
+    let mut p = e.nco.phase;
+    let inc = e.nco.inc;
+    let mut i = 0usize;
+    while i < output.len() {
+        let x = output[i];
+        let s1 = cos_f32(table, sine_at(p));
+        output[i] = x + e.pilot * s1;
         p = std::num::wrapping_add_u32(p, inc);
         i += 1;
     }
     p
+}
+
+// The table with its length written out, so that the compiler leaves the test out of each lookup.
+pub(crate) fn whole(table: &[f32]) -> &[f32]
+    requires { ⌜ length (now table) ≡ 4097 ⌝ }
+    ensures { λ r. ⌜ now r ≡ now (table .entry) ⌝ }
+{
+    &table[..4097]
+}
+
+// The samples in order; the next phase comes back. Each lookup has a pass of its own, so that sum
+// and difference are mixed four samples at a time.
+pub(crate) fn run(
+    e: StereoEncode,
+    table: &[f32],
+    left: &[f32],
+    right: &[f32],
+    output: &mut [f32],
+) -> u32
+    requires { ⌜ (length (now table) ≡ 4097) × (length (now right) ≡ length (now left)) × (length (now output) ≡ length (now left)) ⌝ }
+    ensures { λ r. ⌜ r ≡ phaseAt e (length (now (left .entry))) ⌝ ∗ ⌜ now (output .exit) ≡ samples (length (now (left .entry))) (λ i. multiplexOf (now (table .entry)) (e .main) (e .pilot) (phaseAt e i) (getD (now (left .entry)) i nan) (getD (now (right .entry)) i nan)) ⌝ }
+{
+    let cosines = whole(table);
+    subcarrier(e, cosines, output);
+    mix(e.main, left, right, output);
+    add_pilot(e, cosines, output)
 }
 
 impl StereoEncode {

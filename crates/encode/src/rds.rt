@@ -4,6 +4,8 @@ use crate::encode::SetEncode;
 use crate::encode::StereoEncode;
 use crate::encode::good_level;
 use crate::encode::multiplex;
+use crate::encode::run;
+use crate::encode::whole;
 use blocks::answer::Answer;
 use blocks::answer::is_accepted;
 use blocks::answer::table_rule;
@@ -13,9 +15,10 @@ use phase::lookup::cos_f32;
 use phase::lookup::sine_at_thrice;
 ghost use mathlib.Core.Path.{_≡_};
 ghost use lib.ListN.{length, getD};
-ghost use lib.Ieee.{nan};
+ghost use lib.Ieee.{nan, binary32, add, mul};
 ghost use Rattle.blocks.specs.Answer.{says};
 ghost use Rattle.blocks.specs.Samples.{samples};
+ghost use Rattle.phase.specs.Lookup.{sineAt, cosF32};
 ghost use Rattle.encode.specs.Encode.{
   newEncodeOf,
   withRds,
@@ -70,32 +73,24 @@ pub fn multiplex_rds(
     m + (level * b) * s3
 }
 
-// The samples in order; the next phase comes back.
-fn run(
-    e: StereoEncodeRds,
-    table: &[f32],
-    left: &[f32],
-    right: &[f32],
-    rds: &[f32],
-    output: &mut [f32],
-) -> u32
-    requires { ⌜ (length (now right) ≡ length (now left)) × (length (now rds) ≡ length (now left)) × (length (now output) ≡ length (now left)) ⌝ }
-    ensures { λ r. ⌜ r ≡ phaseAt (e .enc) (length (now (left .entry))) ⌝ ∗ ⌜ now (output .exit) ≡ samples (length (now (left .entry))) (λ i. multiplexRdsOf (now (table .entry)) (e .enc .main) (e .enc .pilot) (e .rds) (phaseAt (e .enc) i) (getD (now (left .entry)) i nan) (getD (now (right .entry)) i nan) (getD (now (rds .entry)) i nan)) ⌝ }
+// RDS is added to each sample.
+fn add_rds(e: StereoEncodeRds, table: &[f32], rds: &[f32], output: &mut [f32])
+    requires { ⌜ length (now output) ≡ length (now rds) ⌝ }
+    ensures { λ r. ⌜ now (output .exit) ≡ samples (length (now (rds .entry))) (λ i. add binary32 (getD (now (output .entry)) i nan) (mul binary32 (mul binary32 (e .rds) (getD (now (rds .entry)) i nan)) (cosF32 (now (table .entry)) (sineAt 3 (phaseAt (e .enc) i))))) ⌝ }
 {
     let enc = e.enc;
     let level = e.rds;
     let mut p = enc.nco.phase;
     let inc = enc.nco.inc;
     let mut i = 0usize;
-    while i < left.len() {
-        let l = left[i];
-        let r = right[i];
+    while i < rds.len() {
+        let x = output[i];
         let b = rds[i];
-        output[i] = multiplex_rds(table, enc.main, enc.pilot, level, p, l, r, b);
+        let s3 = cos_f32(table, sine_at_thrice(p));
+        output[i] = x + (level * b) * s3;
         p = std::num::wrapping_add_u32(p, inc);
         i += 1;
     }
-    p
 }
 
 impl StereoEncodeRds {
@@ -205,7 +200,9 @@ impl StereoEncodeRds {
                 encoder: self,
             };
         }
-        let p = run(self, table, left, right, rds, output);
+        let enc = self.enc;
+        let p = run(enc, table, left, right, output);
+        add_rds(self, whole(table), rds, output);
         EncodeRdsReply {
             answer,
             encoder: self.set_phase(p),

@@ -4,6 +4,7 @@ use crate::names::COUNT;
 use crate::names::NAMES;
 use lines::line::Hex;
 use lines::line::find;
+use lines::line::has;
 use lines::line::word;
 
 pub struct Case {
@@ -20,16 +21,7 @@ pub enum Read {
 
 // Whether the columns between the words are as they have to be.
 fn is_spaced(line: &[u8; 68]) -> bool {
-    if line[16] != b' ' {
-        return false;
-    }
-    if line[33] != b' ' {
-        return false;
-    }
-    if line[50] != b' ' {
-        return false;
-    }
-    line[67] == b'\n'
+    has(line, 16, b' ') & has(line, 33, b' ') & has(line, 50, b' ') & has(line, 67, b'\n')
 }
 
 pub(crate) fn parse(line: &[u8; 68]) -> Read {

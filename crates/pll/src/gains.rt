@@ -33,7 +33,7 @@ pub enum Checked {
 
 // The formulas of the loop: damping 1/sqrt 2, the natural frequency in radians a sample, and the
 // integrator's limit.
-pub fn gains_of(pilot: f64, natural: f64, level: f64, beta: f64, rate: f64) -> LoopGains
+pub(crate) fn gains_of(pilot: f64, natural: f64, level: f64, beta: f64, rate: f64) -> LoopGains
     ensures { λ r. ⌜ gains r ≡ gainsOf pilot natural level beta rate ⌝ }
 {
     let two_pi = 2.0 * PI;
@@ -52,14 +52,14 @@ pub fn gains_of(pilot: f64, natural: f64, level: f64, beta: f64, rate: f64) -> L
 }
 
 // Finite and above 0.
-pub fn is_positive(x: f64) -> bool
+pub(crate) fn is_positive(x: f64) -> bool
     ensures { λ r. ⌜ r ≡ positive x ⌝ }
 {
     is_finite_f64(x) & (x > 0.0)
 }
 
 // Whether x as an f32 is finite and not 0.
-pub fn is_narrow(x: f64) -> bool
+pub(crate) fn is_narrow(x: f64) -> bool
     ensures { λ r. ⌜ r ≡ narrows x ⌝ }
 {
     let y = f64_to_f32(x);
@@ -75,7 +75,7 @@ fn are_narrow(g: LoopGains) -> bool
 }
 
 // The causes 1 to 6, in order.
-pub fn common(pilot: f64, natural: f64, level: f64, beta: f64, rate: f64) -> Checked
+pub(crate) fn common(pilot: f64, natural: f64, level: f64, beta: f64, rate: f64) -> Checked
     ensures { λ r. ⌜ saysCommon r ≡ commonOf pilot natural level beta rate ⌝ }
 {
     if !is_positive(rate) {

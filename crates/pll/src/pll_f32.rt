@@ -91,6 +91,24 @@ impl StereoPllF32 {
         self
     }
 
+    pub fn is_stereo(self) -> bool
+        ensures { λ r. ⌜ r ≡ self .stereo ⌝ }
+    {
+        self.stereo
+    }
+
+    pub fn phase(self) -> u32
+        ensures { λ r. ⌜ r ≡ self .phase ⌝ }
+    {
+        self.phase
+    }
+
+    pub fn is_enabled(self) -> bool
+        ensures { λ r. ⌜ r ≡ self .enabled ⌝ }
+    {
+        self.enabled
+    }
+
     // The integrator in turns a sample.
     pub fn integrator(self) -> f64
         ensures { λ r. ⌜ r ≡ self .integ ⌝ }
@@ -108,23 +126,5 @@ impl StereoPllF32 {
         ensures { λ r. ⌜ r ≡ self .level ⌝ }
     {
         f32_to_f64(self.level)
-    }
-
-    pub fn is_stereo(self) -> bool
-        ensures { λ r. ⌜ r ≡ self .stereo ⌝ }
-    {
-        self.stereo
-    }
-
-    pub fn phase(self) -> u32
-        ensures { λ r. ⌜ r ≡ self .phase ⌝ }
-    {
-        self.phase
-    }
-
-    pub fn is_enabled(self) -> bool
-        ensures { λ r. ⌜ r ≡ self .enabled ⌝ }
-    {
-        self.enabled
     }
 }

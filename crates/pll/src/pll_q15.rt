@@ -146,6 +146,24 @@ impl StereoPllQ15 {
         self
     }
 
+    pub fn is_stereo(self) -> bool
+        ensures { λ r. ⌜ r ≡ self .stereo ⌝ }
+    {
+        self.stereo
+    }
+
+    pub fn phase(self) -> u32
+        ensures { λ r. ⌜ r ≡ self .phase ⌝ }
+    {
+        self.phase
+    }
+
+    pub fn is_enabled(self) -> bool
+        ensures { λ r. ⌜ r ≡ self .enabled ⌝ }
+    {
+        self.enabled
+    }
+
     // The integrator in turns a sample.
     pub fn integrator(self) -> f64
         ensures { λ r. ⌜ r ≡ Ieee.div binary64 (Ieee.ofInt binary64 (self .integ)) (power 64) ⌝ }
@@ -163,24 +181,6 @@ impl StereoPllQ15 {
         ensures { λ r. ⌜ r ≡ Ieee.div binary64 (Ieee.ofInt binary64 (self .level)) (power 61) ⌝ }
     {
         i64_to_f64(self.level) / 2305843009213693952.0
-    }
-
-    pub fn is_stereo(self) -> bool
-        ensures { λ r. ⌜ r ≡ self .stereo ⌝ }
-    {
-        self.stereo
-    }
-
-    pub fn phase(self) -> u32
-        ensures { λ r. ⌜ r ≡ self .phase ⌝ }
-    {
-        self.phase
-    }
-
-    pub fn is_enabled(self) -> bool
-        ensures { λ r. ⌜ r ≡ self .enabled ⌝ }
-    {
-        self.enabled
     }
 }
 

@@ -4,6 +4,8 @@ use blocks::answer::Answer;
 use blocks::answer::is_accepted;
 use blocks::answer::then_input;
 use blocks::answer::then_output;
+use numbers::fixed::q15_add_sat;
+use numbers::fixed::q15_sub_sat;
 ghost use mathlib.Core.Path.{_≡_};
 ghost use lib.ListN.{length, getD};
 ghost use lib.IntN.{pos};
@@ -55,18 +57,19 @@ pub fn matrix_f32(sum: &[f32], difference: &[f32], left: &mut [f32], right: &mut
     a
 }
 
-// One sample of the left channel.
+// One sample of the left channel. Limiting after each step leaves what limiting s + 2d once would
+// (proofs/Twice.antt), and compiles to one instruction a step for eight samples.
 fn left_q15(s: i16, d: i16) -> i16
     ensures { λ r. ⌜ r ≡ leftQ15 s d ⌝ }
 {
-    numbers::fixed::sat16(s as i64 + 2 * (d as i64))
+    q15_add_sat(q15_add_sat(s, d), d)
 }
 
 // One sample of the right channel.
 fn right_q15(s: i16, d: i16) -> i16
     ensures { λ r. ⌜ r ≡ rightQ15 s d ⌝ }
 {
-    numbers::fixed::sat16(s as i64 - 2 * (d as i64))
+    q15_sub_sat(q15_sub_sat(s, d), d)
 }
 
 fn fill_q15(sum: &[i16], difference: &[i16], left: &mut [i16], right: &mut [i16])

@@ -2,6 +2,7 @@
 use crate::line::Case;
 use crate::names;
 use crate::samples;
+use blocks::answer::Answer;
 use blocks::answer::is_accepted;
 use encode::encode::NewEncode;
 use encode::encode::SetEncode;
@@ -105,21 +106,23 @@ fn at_q15(x: &[i16; 16], k: u64) -> u64 {
     words::word_i16(x[(k % 16) as usize])
 }
 
+// The word where a block was accepted.
+fn accepted(a: Answer, w: u64) -> u64 {
+    if is_accepted(a) { w } else { TURNED_BACK }
+}
+
 // Of a block of 16 samples: left at k below 16, right from there on.
+fn either(k: u64, left: u64, right: u64) -> u64 {
+    if k < 16 { left } else { right }
+}
+
 fn matrix_f32(seed: u64, k: u64) -> u64 {
     let sum = samples::block_f32(seed);
     let difference = samples::block_f32(samples::second(seed));
     let mut left = [0.0f32; 16];
     let mut right = [0.0f32; 16];
     let a = stereo::matrix::matrix_f32(&sum, &difference, &mut left, &mut right);
-    if !is_accepted(a) {
-        return TURNED_BACK;
-    }
-    if k < 16 {
-        at_f32(&left, k)
-    } else {
-        at_f32(&right, k)
-    }
+    accepted(a, either(k, at_f32(&left, k), at_f32(&right, k)))
 }
 
 fn matrix_q15(seed: u64, k: u64) -> u64 {
@@ -128,14 +131,7 @@ fn matrix_q15(seed: u64, k: u64) -> u64 {
     let mut left = [0i16; 16];
     let mut right = [0i16; 16];
     let a = stereo::matrix::matrix_q15(&sum, &difference, &mut left, &mut right);
-    if !is_accepted(a) {
-        return TURNED_BACK;
-    }
-    if k < 16 {
-        at_q15(&left, k)
-    } else {
-        at_q15(&right, k)
-    }
+    accepted(a, either(k, at_q15(&left, k), at_q15(&right, k)))
 }
 
 // Of a block of 16 samples: the output at k below 16, then the next phase.
@@ -145,14 +141,14 @@ fn encode(cos: &[f32], seed: u64, k: u64, e: StereoEncode) -> u64 {
     let mut output = [0.0f32; 16];
     let reply = e.encode(cos, &left, &right, &mut output);
     let a = reply.answer;
-    if !is_accepted(a) {
-        return TURNED_BACK;
-    }
-    if k < 16 {
-        at_f32(&output, k)
-    } else {
-        words::word_u32(reply.encoder.nco.phase)
-    }
+    accepted(
+        a,
+        either(
+            k,
+            at_f32(&output, k),
+            words::word_u32(reply.encoder.nco.phase),
+        ),
+    )
 }
 
 fn encode_rds(cos: &[f32], seed: u64, k: u64, e: StereoEncodeRds) -> u64 {
@@ -162,14 +158,14 @@ fn encode_rds(cos: &[f32], seed: u64, k: u64, e: StereoEncodeRds) -> u64 {
     let mut output = [0.0f32; 16];
     let reply = e.encode(cos, &left, &right, &rds, &mut output);
     let a = reply.answer;
-    if !is_accepted(a) {
-        return TURNED_BACK;
-    }
-    if k < 16 {
-        at_f32(&output, k)
-    } else {
-        words::word_u32(reply.encoder.enc.nco.phase)
-    }
+    accepted(
+        a,
+        either(
+            k,
+            at_f32(&output, k),
+            words::word_u32(reply.encoder.enc.nco.phase),
+        ),
+    )
 }
 
 // Lookup, correction and oscillator.

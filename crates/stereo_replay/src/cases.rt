@@ -1,6 +1,9 @@
 // Document 01's other cases, and one case for each refusal of these calls. What each has to write
 // stands in the file stdout.
-use blocks::answer::Answer;
+use crate::write::done;
+use crate::write::line;
+use crate::write::number;
+use crate::write::refusal;
 use encode::encode::NewEncode;
 use encode::encode::SetEncode;
 use encode::encode::StereoEncode;
@@ -14,24 +17,6 @@ use phase::oscillator::Nco;
 use phase::oscillator::NewNco;
 use phase::oscillator::SetNco;
 
-fn number(n: u64) {
-    io::write_all(STDOUT_FILENO, b" ");
-    io::print_decimal(STDOUT_FILENO, n);
-}
-
-fn line(name: &[u8]) {
-    io::write_all(STDOUT_FILENO, name);
-}
-
-fn done() {
-    io::write_all(STDOUT_FILENO, b"\n");
-}
-
-fn refusal(n: u32) {
-    io::write_all(STDOUT_FILENO, b" refused by");
-    number(n as u64);
-}
-
 fn increment(name: &[u8], freq: f64, rate: f64) {
     line(name);
     match phase::oscillator::increment_for(freq, rate) {
@@ -41,39 +26,56 @@ fn increment(name: &[u8], freq: f64, rate: f64) {
     done();
 }
 
-// A new oscillator, and another frequency for one that stands at phase 5 with the increment 7.
-fn oscillator(name: &[u8], freq: f64, rate: f64) {
-    line(name);
+fn new_oscillator(freq: f64, rate: f64) {
     match Nco::new(freq, rate) {
         NewNco::Made(o) => number(o.inc as u64),
         NewNco::Refused(n) => refusal(n),
     }
+}
+
+fn state(o: Nco) {
+    number(o.phase as u64);
+    number(o.inc as u64);
+}
+
+// Another frequency for an oscillator that stands at phase 5 with the increment 7.
+fn old_oscillator(freq: f64, rate: f64) {
     let old = Nco { phase: 5, inc: 7 };
     match old.set_frequency(freq, rate) {
-        SetNco::Done(o) => {
-            number(o.phase as u64);
-            number(o.inc as u64);
-        }
+        SetNco::Done(o) => state(o),
         SetNco::Refused(n, o) => {
             refusal(n);
-            number(o.phase as u64);
-            number(o.inc as u64);
+            state(o);
         }
     }
+}
+
+fn oscillator(name: &[u8], freq: f64, rate: f64) {
+    line(name);
+    new_oscillator(freq, rate);
+    old_oscillator(freq, rate);
     done();
+}
+
+fn new_encoder(frequency: f64, main: f32, pilot: f32, rate: f64) {
+    match StereoEncode::new(frequency, main, pilot, rate) {
+        NewEncode::Made(e) => number(e.nco.inc as u64),
+        NewEncode::Refused(n) => refusal(n),
+    }
+}
+
+fn new_encoder_rds(frequency: f64, main: f32, pilot: f32, rds: f32, rate: f64) {
+    match StereoEncodeRds::new(frequency, main, pilot, rds, rate) {
+        NewEncodeRds::Made(e) => number(e.enc.nco.inc as u64),
+        NewEncodeRds::Refused(n) => refusal(n),
+    }
 }
 
 // Both constructors.
 fn construct(name: &[u8], frequency: f64, main: f32, pilot: f32, rds: f32, rate: f64) {
     line(name);
-    match StereoEncode::new(frequency, main, pilot, rate) {
-        NewEncode::Made(e) => number(e.nco.inc as u64),
-        NewEncode::Refused(n) => refusal(n),
-    }
-    match StereoEncodeRds::new(frequency, main, pilot, rds, rate) {
-        NewEncodeRds::Made(e) => number(e.enc.nco.inc as u64),
-        NewEncodeRds::Refused(n) => refusal(n),
-    }
+    new_encoder(frequency, main, pilot, rate);
+    new_encoder_rds(frequency, main, pilot, rds, rate);
     done();
 }
 
@@ -85,11 +87,7 @@ fn level(x: f32) {
 // as a pattern.
 fn set(name: &[u8], to: f32) {
     line(name);
-    let enc = StereoEncode {
-        nco: Nco { phase: 1, inc: 2 },
-        main: 0.5,
-        pilot: 0.125,
-    };
+    let enc = encoder();
     match enc.set_pilot(to) {
         SetEncode::Done(e) => level(e.pilot),
         SetEncode::Refused(n, e) => {
@@ -118,56 +116,13 @@ fn verdict(name: &[u8], amplitude: f32) {
     done();
 }
 
-fn lengths(n: u64, first: usize, at: usize) {
-    io::write_all(STDOUT_FILENO, b" refused by");
-    number(n);
-    number(first as u64);
-    number(at as u64);
-}
-
-fn said(a: Answer) {
-    match a {
-        Answer::Accepted => {
-            io::write_all(STDOUT_FILENO, b" accepted");
-        }
-        Answer::Unfit => lengths(0, 0, 0),
-        Answer::Table(n) => lengths(9, 4097, n),
-        Answer::Input(first, n) => lengths(10, first, n),
-        Answer::Output(first, n) => lengths(11, first, n),
-    }
-}
-
-// Slices of four and of three samples where the name says so.
-fn matrix_f32(name: &[u8], sum: &[f32], difference: &[f32], left: &mut [f32], right: &mut [f32]) {
-    line(name);
-    said(stereo::matrix::matrix_f32(sum, difference, left, right));
-    done();
-}
-
-fn matrix_q15(name: &[u8], sum: &[i16], difference: &[i16], left: &mut [i16], right: &mut [i16]) {
-    line(name);
-    said(stereo::matrix::matrix_q15(sum, difference, left, right));
-    done();
-}
-
-// Both encoders, at phase 1 with the increment 2; the next phase of each follows.
-fn encoders(name: &[u8], table: &[f32], left: &[f32], right: &[f32], rds: &[f32], out: &mut [f32]) {
-    line(name);
-    let enc = StereoEncode {
+// An encoder at phase 1 with the increment 2.
+pub(crate) fn encoder() -> StereoEncode {
+    StereoEncode {
         nco: Nco { phase: 1, inc: 2 },
         main: 0.5,
         pilot: 0.125,
-    };
-    let plain = enc.encode(table, left, right, out);
-    let a = plain.answer;
-    said(a);
-    number(plain.encoder.nco.phase as u64);
-    let with_rds = StereoEncodeRds { enc, rds: 0.125 };
-    let reply = with_rds.encode(table, left, right, rds, out);
-    let b = reply.answer;
-    said(b);
-    number(reply.encoder.enc.nco.phase as u64);
-    done();
+    }
 }
 
 fn increments() {
@@ -175,6 +130,9 @@ fn increments() {
     increment(b"cycles 1/2^33:", 1.0, 8589934592.0);
     increment(b"cycles 3/2^33:", 3.0, 8589934592.0);
     increment(b"cycles 5/2^33:", 5.0, 8589934592.0);
+}
+
+fn oscillators() {
     oscillator(b"oscillator, rate 0:", 1.0, 0.0);
     oscillator(b"oscillator, rate NaN:", 1.0, 0.0 / 0.0);
     oscillator(b"oscillator, frequency infinite:", 1.0 / 0.0, 1.0);
@@ -201,6 +159,9 @@ fn constructions() {
         0.04,
         192000.0,
     );
+}
+
+fn further_constructions() {
     construct(
         b"encoder, amplitude above 0.2:",
         19000.0,
@@ -247,95 +208,11 @@ fn verdicts() {
     verdict(b"on air NaN:", 0.0 / 0.0);
 }
 
-fn matrices() {
-    let four = [0.5f32; 4];
-    let three = [0.5f32; 3];
-    let mut a = [0.0f32; 4];
-    let mut b = [0.0f32; 4];
-    let mut short = [0.0f32; 3];
-    matrix_f32(b"matrix f32:", &four, &four, &mut a, &mut b);
-    matrix_f32(
-        b"matrix f32, difference short:",
-        &four,
-        &three,
-        &mut a,
-        &mut b,
-    );
-    matrix_f32(b"matrix f32, left short:", &four, &four, &mut short, &mut b);
-    matrix_f32(
-        b"matrix f32, right short:",
-        &four,
-        &four,
-        &mut a,
-        &mut short,
-    );
-    let four_q15 = [5i16; 4];
-    let three_q15 = [5i16; 3];
-    let mut c = [0i16; 4];
-    let mut d = [0i16; 4];
-    let mut short_q15 = [0i16; 3];
-    matrix_q15(b"matrix Q15:", &four_q15, &four_q15, &mut c, &mut d);
-    matrix_q15(
-        b"matrix Q15, difference short:",
-        &four_q15,
-        &three_q15,
-        &mut c,
-        &mut d,
-    );
-    matrix_q15(
-        b"matrix Q15, left short:",
-        &four_q15,
-        &four_q15,
-        &mut short_q15,
-        &mut d,
-    );
-    matrix_q15(
-        b"matrix Q15, right short:",
-        &four_q15,
-        &four_q15,
-        &mut c,
-        &mut short_q15,
-    );
-}
-
-fn blocks_of(cos: &[f32]) {
-    let four = [0.5f32; 4];
-    let three = [0.5f32; 3];
-    let mut out = [0.0f32; 4];
-    let mut short = [0.0f32; 3];
-    encoders(b"encoders:", cos, &four, &four, &four, &mut out);
-    encoders(
-        b"encoders, table of 4:",
-        &four,
-        &four,
-        &four,
-        &four,
-        &mut out,
-    );
-    encoders(
-        b"encoders, right short:",
-        cos,
-        &four,
-        &three,
-        &four,
-        &mut out,
-    );
-    encoders(b"encoders, RDS short:", cos, &four, &four, &three, &mut out);
-    encoders(
-        b"encoders, output short:",
-        cos,
-        &four,
-        &four,
-        &four,
-        &mut short,
-    );
-}
-
-pub(crate) fn run(cos: &[f32]) {
+pub(crate) fn run() {
     increments();
+    oscillators();
     constructions();
+    further_constructions();
     sets();
     verdicts();
-    matrices();
-    blocks_of(cos);
 }

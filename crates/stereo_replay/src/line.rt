@@ -33,39 +33,45 @@ fn is_spaced(line: &[u8; 119]) -> bool {
         & has(line, 118, b'\n')
 }
 
+fn is_word(line: &[u8; 119], at: usize) -> bool {
+    match word(line, at) {
+        Hex::Value(_) => true,
+        Hex::Malformed => false,
+    }
+}
+
+// The word at a column, or 0 where there is none.
+fn value(line: &[u8; 119], at: usize) -> u64 {
+    match word(line, at) {
+        Hex::Value(w) => w,
+        Hex::Malformed => 0,
+    }
+}
+
+fn is_formed(line: &[u8; 119]) -> bool {
+    is_word(line, 17)
+        & is_word(line, 34)
+        & is_word(line, 51)
+        & is_word(line, 68)
+        & is_word(line, 85)
+        & is_word(line, 102)
+}
+
 pub(crate) fn parse(line: &[u8; 119]) -> Read {
     let function = find(line, &NAMES);
     if function >= COUNT {
         return Read::Malformed;
     }
-    if !is_spaced(line) {
+    if !(is_spaced(line) & is_formed(line)) {
         return Read::Malformed;
     }
-    let Hex::Value(a) = word(line, 17) else {
-        return Read::Malformed;
-    };
-    let Hex::Value(b) = word(line, 34) else {
-        return Read::Malformed;
-    };
-    let Hex::Value(c) = word(line, 51) else {
-        return Read::Malformed;
-    };
-    let Hex::Value(d) = word(line, 68) else {
-        return Read::Malformed;
-    };
-    let Hex::Value(e) = word(line, 85) else {
-        return Read::Malformed;
-    };
-    let Hex::Value(answer) = word(line, 102) else {
-        return Read::Malformed;
-    };
     Read::Case(Case {
         function,
-        a,
-        b,
-        c,
-        d,
-        e,
-        answer,
+        a: value(line, 17),
+        b: value(line, 34),
+        c: value(line, 51),
+        d: value(line, 68),
+        e: value(line, 85),
+        answer: value(line, 102),
     })
 }

@@ -6,10 +6,12 @@ use libc::STDOUT_FILENO;
 
 mod answer;
 mod cases;
+mod lengths;
 mod line;
 mod names;
 mod samples;
 mod tally;
+mod write;
 
 // A proved loop has to end, and nothing says that a file does: so the loop counts its turns down,
 // from a number that no run uses up.
@@ -26,6 +28,18 @@ fn replay(fd: i32, cos: &[f32], cos_q15: &[i16]) -> lines::tally::Tally {
     t
 }
 
+// Replays the opened list, reports, and goes on to the other cases.
+fn run(fd: i32) {
+    let mut cos = [0.0f32; 4097];
+    samples::fill_f32(samples::TABLE_F32, &mut cos);
+    let mut cos_q15 = [0i16; 4097];
+    samples::fill_q15(samples::TABLE_Q15, &mut cos_q15);
+    let t = replay(fd, &cos, &cos_q15);
+    lines::tally::report(t, &names::NAMES);
+    cases::run();
+    lengths::run(&cos);
+}
+
 fn main() {
     let path = b"stereo.txt";
     let fd = os::open_read(path);
@@ -34,12 +48,6 @@ fn main() {
         io::write_all(STDOUT_FILENO, b"the list cannot be opened\n");
         return;
     }
-    let mut cos = [0.0f32; 4097];
-    samples::fill_f32(samples::TABLE_F32, &mut cos);
-    let mut cos_q15 = [0i16; 4097];
-    samples::fill_q15(samples::TABLE_Q15, &mut cos_q15);
-    let t = replay(fd, &cos, &cos_q15);
+    run(fd);
     libc::close(fd);
-    lines::tally::report(t, &names::NAMES);
-    cases::run(&cos);
 }

@@ -1,83 +1,35 @@
 use borrow.Author.Needs.{needs}
-use Prim.Native.Nat.{_-_}
-use mathlib.Core.Path.{sym, _∙_}
-use native.Mathlib.Omega.{arith}
-use lib.ListN.{length, getD}
-use lib.Ieee.{nan}
-use Rattle.encode.specs.Encode.{multiplexOf}
-use Rattle.encode.proofs.Phases.{Sent, sent-start, sent-next, sent-end}
+use mathlib.Core.Path.{_≡_, ap, _∙_}
+use Rattle.encode.specs.Encode.{phaseAt}
+use Rattle.encode.proofs.Passes.{multiplexed}
 use Rattle.encode.proofs.encode.run.Statement.{statement}
 use Rattle.encode.proofs.encode.run.Tie as tie
 
-abbrev Inv-loop : tie.InvT-loop
-Inv-loop e table left right output₀ p₀ inc i₀ output p i =
-    Sent e (length left) (λ q k. multiplexOf table (e .main) (e .pilot) q (getD left k nan) (getD right k nan)) i p output
+whole-requires : tie.Need-whole-requires
+whole-requires c κs = search needs
 
-abbrev μ-loop : tie.MeasureT-loop
-μ-loop e table left right output₀ p₀ inc i₀ output p i = length left - i
+subcarrier-requires : tie.Need-subcarrier-requires
+subcarrier-requires c κs = search needs
 
-loop-holds : tie.Need-loop-holds Inv-loop μ-loop
-loop-holds c = sent-start (omega arith) (c .before .before .before .before .pre .1)
+mix-requires : tie.Need-mix-requires
+mix-requires c κs = search needs
 
-mul-l : tie.Need-mul-l Inv-loop μ-loop
-mul-l c = search needs
+add-pilot-requires : tie.Need-add-pilot-requires
+add-pilot-requires c κs = search needs
 
-shared-slice-read-l : tie.Need-shared-slice-read-l Inv-loop μ-loop
-shared-slice-read-l c = search needs
+same-length : tie.Need-same-length
+same-length c = search needs
 
-mul-r : tie.Need-mul-r Inv-loop μ-loop
-mul-r c = search needs
-
-shared-slice-read-r : tie.Need-shared-slice-read-r Inv-loop μ-loop
-shared-slice-read-r c = search needs
-
-multiplex-requires : tie.Need-multiplex-requires Inv-loop μ-loop
-multiplex-requires c κs = search needs
-
-mul-output : tie.Need-mul-output Inv-loop μ-loop
-mul-output c = search needs
-
-slice-write-output : tie.Need-slice-write-output Inv-loop μ-loop
-slice-write-output c = search needs
-
-wrapping-add-u32-requires : tie.Need-wrapping-add-u32-requires Inv-loop μ-loop
-wrapping-add-u32-requires c κs = search needs
-
-add-i : tie.Need-add-i Inv-loop μ-loop
-add-i c = omega arith
-
-loop-less : tie.Need-loop-less Inv-loop μ-loop
-loop-less c = omega arith
-
-loop-again : tie.Need-loop-again Inv-loop μ-loop
-loop-again c =
-    let m = c .before in
-    let b = m .before .before .before in
-    sent-next (b .before .loop .inv) (b .loop-test .taken) (m .multiplex .ensures) (c .wrapping-add-u32 .ensures)
-
-same-length : tie.Need-same-length Inv-loop μ-loop
-same-length c = c .before .loop .inv .filled .size ∙ sym (c .before .before .before .before .before .before .pre .1)
-
-returns : tie.Need-returns Inv-loop μ-loop
-returns c = sent-end (c .before .loop .inv) (c .loop-test .left)
+returns : tie.Need-returns
+returns c =
+    let a = c .before .before in
+    let m = a .before .before .before .before in
+    let s = m .before .before .before .before in
+    let w = s .before .before in
+    let b = w .before .before .before .before .before in
+    let x = b .args in
+    let r = multiplexed (x .e) (x .table .now) (x .left .now) (x .right .now) (w .whole .ensures) (b .pre .2) (s .subcarrier .ensures) (m .mix .ensures) (a .add-pilot .ensures .1) in
+    (a .add-pilot .ensures .0 ∙ ap (phaseAt (x .e)) (r .0), r .1)
 
 pub run-spec : {M : Type 1} → statement M
-run-spec =
-    tie.close
-    (tie.spec
-    Inv-loop
-    μ-loop
-    loop-holds
-    mul-l
-    shared-slice-read-l
-    mul-r
-    shared-slice-read-r
-    multiplex-requires
-    mul-output
-    slice-write-output
-    wrapping-add-u32-requires
-    add-i
-    loop-less
-    loop-again
-    same-length
-    returns)
+run-spec = tie.close (tie.spec whole-requires subcarrier-requires mix-requires add-pilot-requires same-length returns)

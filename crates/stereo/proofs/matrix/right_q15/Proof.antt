@@ -3,34 +3,25 @@ use mathlib.Core.Path.{_∙_}
 use mir.Syntax.{w16}
 use mir.Facts.{toZ-ofZ}
 use Rattle.rounding.proofs.Lin.{back}
-use Rattle.numbers.proofs.Integers.{widen, wide}
 use Rattle.stereo.specs.Matrix.{rightQ15}
-use Rattle.stereo.proofs.Twice.{twice-fits, minus-fits}
+use Rattle.stereo.proofs.Twice.{minus-twice}
 use Rattle.stereo.proofs.matrix.right_q15.Statement.{statement}
 use Rattle.stereo.proofs.matrix.right_q15.Tie as tie
 
-cast-sat16 : tie.Need-cast-sat16
-cast-sat16 c = search (needs, widen)
+q15-sub-sat-requires : tie.Need-q15-sub-sat-requires
+q15-sub-sat-requires c κs = search needs
 
-cast-sat16-2 : tie.Need-cast-sat16-2
-cast-sat16-2 c = search (needs, widen)
-
-mul-sat16 : tie.Need-mul-sat16
-mul-sat16 c = let f = c .fits in rw (wide (f .d)) (twice-fits _ _ (f .s) (f .d))
-
-sub-sat16 : tie.Need-sub-sat16
-sub-sat16 c = let f = c .fits in rw (wide (f .s), wide (f .d), toZ-ofZ (twice-fits _ _ (f .s) (f .d))) (minus-fits _ _ (f .s) (f .d))
-
-sat16-requires : tie.Need-sat16-requires
-sat16-requires c κs = search needs
+q15-sub-sat-requires-2 : tie.Need-q15-sub-sat-requires-2
+q15-sub-sat-requires-2 c κs = search needs
 
 returns : tie.Need-returns
 unfolding rightQ15
 returns c =
-    let f = c .before .fits in
-    back w16 (c .sat16 .result) (c .sat16 .ok)
-    ∙ c .sat16 .ensures
-    ∙ rw (wide (f .s), wide (f .d), toZ-ofZ (twice-fits _ _ (f .s) (f .d)), toZ-ofZ (minus-fits _ _ (f .s) (f .d)))
+    let one = c .before .q15-sub-sat in
+    let b = c .before .before in
+    back w16 (c .q15-sub-sat2 .result) (c .q15-sub-sat2 .ok)
+    ∙ c .q15-sub-sat2 .ensures
+    ∙ rw (back w16 (one .result) (one .ok), one .ensures, toZ-ofZ (b .fits .s), toZ-ofZ (b .fits .d)) (minus-twice (b .args .s) (b .args .d) (b .fits .s))
 
 pub right-q15-spec : {M : Type 1} → statement M
-right-q15-spec = tie.close (tie.spec cast-sat16 cast-sat16-2 mul-sat16 sub-sat16 sat16-requires returns)
+right-q15-spec = tie.close (tie.spec q15-sub-sat-requires q15-sub-sat-requires-2 returns)

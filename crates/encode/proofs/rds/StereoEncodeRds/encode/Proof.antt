@@ -6,6 +6,7 @@ use Rattle.blocks.specs.Answer.{says, accepts}
 use Rattle.encode.specs.Encode.{encodeRdsOf}
 use Rattle.blocks.proofs.Tests.{failed, passed}
 use Rattle.encode.proofs.Encoders.{encode-rds-lengths, turned-back, carried-out}
+use Rattle.encode.proofs.Passes.{rds-added}
 use Rattle.encode.proofs.rds.StereoEncodeRds.encode.Statement.{statement}
 use Rattle.encode.proofs.rds.StereoEncodeRds.encode.Tie as tie
 
@@ -37,11 +38,27 @@ returns c = turned-back (answer-is (c .before .before)) _ _ (failed (c .before .
 accepted : (c : tie.Else1) → accepts (says (c .before .before .then-output .result)) ≡ true
 accepted c = passed (c .before .is-accepted .ensures) (c .if1 .left)
 
+equal-lengths : (c : tie.Else1) → let a = start (c .before .before) .args in
+    let n = length (a .left .now) in
+    (length (a .table .now) ≡ 4097) × (length (a .right .now) ≡ n) × (length (a .rds .now) ≡ n) × (length (a .output .now) ≡ n)
+equal-lengths c =
+    let o = c .before .before in
+    let a = start o .args in
+    encode-rds-lengths (length (a .left .now)) (length (a .table .now)) _ _ _ (rw (answer-is o) at (accepted c))
+
 run-requires : tie.Need-run-requires
-run-requires c κs =
-    let e = c .before in
-    let o = e .before .before in
-    encode-rds-lengths _ (length (start o .args .table .now)) _ _ _ (rw (answer-is o) at (accepted e))
+run-requires c κs = let l = equal-lengths (c .before .before) in (l .0, l .1, l .3)
+
+abbrev ran : tie.After-slice-known2 → tie.After-run
+ran c = c .before .before
+
+whole-requires : tie.Need-whole-requires
+whole-requires c κs = equal-lengths (ran c .before .before .before) .0
+
+add-rds-requires : tie.Need-add-rds-requires
+add-rds-requires c κs =
+    let l = equal-lengths (ran (c .before .before) .before .before .before) in
+    search needs
 
 set-phase-requires : tie.Need-set-phase-requires
 set-phase-requires c κs = search needs
@@ -51,10 +68,16 @@ same-length c = search needs
 
 returns-2 : tie.Need-returns-2
 returns-2 c =
-    let r = c .before .before .before in
-    let e = r .before .before in
-    carried-out (answer-is (e .before .before)) _ _ (accepted e) (r .run .ensures .1) (rw (r .run .ensures .0) at (c .set-phase .ensures))
+    let d = c .before .before .before in
+    let w = d .before .before in
+    let r = ran (w .before) in
+    let e = r .before .before .before in
+    let o = e .before .before in
+    let a = start o .args in
+    carried-out (answer-is o) _ _ (accepted e)
+    (rds-added (a .self .enc) (a .table .now) (a .left .now) (a .right .now) (w .whole .ensures) (a .self .rds) (a .rds .now) (equal-lengths e .2) (r .run .ensures .1) (d .add-rds .ensures))
+    (rw (r .run .ensures .0) at (c .set-phase .ensures))
 
 pub encode-spec : {M : Type 1} → statement M
 encode-spec =
-    tie.close (tie.spec table-rule-requires then-input-requires then-input-requires-2 then-output-requires is-accepted-requires returns run-requires set-phase-requires same-length returns-2)
+    tie.close (tie.spec table-rule-requires then-input-requires then-input-requires-2 then-output-requires is-accepted-requires returns run-requires whole-requires add-rds-requires set-phase-requires same-length returns-2)
