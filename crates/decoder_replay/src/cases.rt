@@ -44,7 +44,14 @@ fn constructions() {
     construct(b"rate 0:", 19000.0, 20.0, 0.1, 0.5, 0.0);
     construct(b"rate NaN:", 19000.0, 20.0, 0.1, 0.5, 0.0 / 0.0);
     construct(b"pilot at rate/4:", 48000.0, 20.0, 0.1, 0.5, 192000.0);
-    construct(b"natural above pilot/100:", 19000.0, 190.1, 0.1, 0.5, 192000.0);
+    construct(
+        b"natural above pilot/100:",
+        19000.0,
+        190.1,
+        0.1,
+        0.5,
+        192000.0,
+    );
     construct(b"level 1.5:", 19000.0, 20.0, 1.5, 0.5, 192000.0);
     construct(b"lock coefficient 1.5:", 19000.0, 20.0, 0.1, 1.5, 192000.0);
 }
@@ -154,9 +161,33 @@ fn lengths_f32(table: &[f32]) {
     let mut short = [0.0f32; 3];
     block_f32(b"f32:", d, table, &four, &four, &mut s, &mut e);
     block_f32(b"f32, table of 4:", d, &four, &four, &three, &mut s, &mut e);
-    block_f32(b"f32, pilot short:", d, table, &four, &three, &mut short, &mut e);
-    block_f32(b"f32, sum short:", d, table, &four, &four, &mut short, &mut e);
-    block_f32(b"f32, difference short:", d, table, &four, &four, &mut s, &mut short);
+    block_f32(
+        b"f32, pilot short:",
+        d,
+        table,
+        &four,
+        &three,
+        &mut short,
+        &mut e,
+    );
+    block_f32(
+        b"f32, sum short:",
+        d,
+        table,
+        &four,
+        &four,
+        &mut short,
+        &mut e,
+    );
+    block_f32(
+        b"f32, difference short:",
+        d,
+        table,
+        &four,
+        &four,
+        &mut s,
+        &mut short,
+    );
 }
 
 fn lengths_q15(table: &[i16]) {
@@ -167,11 +198,43 @@ fn lengths_q15(table: &[i16]) {
     let mut e = [0i16; 4];
     let mut short = [0i16; 3];
     block_q15(b"Q15:", d, table, &four, &four, &mut s, &mut e);
-    block_q15(b"Q15, unfit, table of 4:", record_q15(-1), &four, &four, &four, &mut s, &mut e);
+    block_q15(
+        b"Q15, unfit, table of 4:",
+        record_q15(-1),
+        &four,
+        &four,
+        &four,
+        &mut s,
+        &mut e,
+    );
     block_q15(b"Q15, table of 4:", d, &four, &four, &three, &mut s, &mut e);
-    block_q15(b"Q15, pilot short:", d, table, &four, &three, &mut short, &mut e);
-    block_q15(b"Q15, sum short:", d, table, &four, &four, &mut short, &mut e);
-    block_q15(b"Q15, difference short:", d, table, &four, &four, &mut s, &mut short);
+    block_q15(
+        b"Q15, pilot short:",
+        d,
+        table,
+        &four,
+        &three,
+        &mut short,
+        &mut e,
+    );
+    block_q15(
+        b"Q15, sum short:",
+        d,
+        table,
+        &four,
+        &four,
+        &mut short,
+        &mut e,
+    );
+    block_q15(
+        b"Q15, difference short:",
+        d,
+        table,
+        &four,
+        &four,
+        &mut s,
+        &mut short,
+    );
 }
 
 // One sample by both ways, with its outputs.
@@ -214,8 +277,24 @@ fn odd_f32(table: &[f32]) {
     let pilot = [f32_of(0xFF61_B1E6), f32_of(0x7F61_B1E6), 0.0];
     let mut s = [9.0f32; 3];
     let mut e = [9.0f32; 3];
-    block_f32(b"level NaN:", record_f32(1.0, 1.0), table, &three, &pilot, &mut s, &mut e);
-    block_f32(b"limit -1:", record_f32(1.0, -1.0), table, &three, &three, &mut s, &mut e);
+    block_f32(
+        b"level NaN:",
+        record_f32(1.0, 1.0),
+        table,
+        &three,
+        &pilot,
+        &mut s,
+        &mut e,
+    );
+    block_f32(
+        b"limit -1:",
+        record_f32(1.0, -1.0),
+        table,
+        &three,
+        &three,
+        &mut s,
+        &mut e,
+    );
 }
 
 pub(crate) fn run() {

@@ -1,7 +1,7 @@
 // A line's call of the f32 decoder.
 use crate::names;
-use crate::samples::fill_f32;
 use crate::samples::block_length;
+use crate::samples::fill_f32;
 use crate::samples::table_length;
 use crate::words12::digest;
 use crate::words12::digest_f32;
@@ -46,7 +46,13 @@ fn made(d: StereoPllF32) -> TurnF32 {
 
 // Construction; a refusal leaves the decoder that is there.
 fn new(d: StereoPllF32, w: &[u64; 17]) -> TurnF32 {
-    match StereoPllF32::new(f64_of(w[0]), f64_of(w[1]), f64_of(w[2]), f64_of(w[3]), f64_of(w[4])) {
+    match StereoPllF32::new(
+        f64_of(w[0]),
+        f64_of(w[1]),
+        f64_of(w[2]),
+        f64_of(w[3]),
+        f64_of(w[4]),
+    ) {
         NewF32::Made(n) => made(n),
         NewF32::Refused(n) => TurnF32 {
             words: [n as u64, 0, 0, 0, 0, 0, 0, 0, 0, 0, 0, 0],

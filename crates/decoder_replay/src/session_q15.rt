@@ -1,18 +1,18 @@
 // A line's call of the Q15 decoder.
 use crate::names;
-use crate::samples::fill_q15;
 use crate::samples::block_length;
+use crate::samples::fill_q15;
 use crate::samples::table_length;
 use crate::words12::digest;
 use crate::words12::digest_q15;
 use crate::words12::switches;
 use decoder::parts_q15::ReplyQ15;
-use lines::words::i16_of;
 use lines::words::f64_of;
+use lines::words::i16_of;
 use lines::words::i64_of;
 use lines::words::u32_of;
-use lines::words::word_i64;
 use lines::words::word_f64;
+use lines::words::word_i64;
 use lines::words::word_u32;
 use pll::pll_q15::NewQ15;
 use pll::pll_q15::StereoPllQ15;
@@ -47,7 +47,13 @@ fn made(d: StereoPllQ15) -> TurnQ15 {
 
 // Construction; a refusal leaves the decoder that is there.
 fn new(d: StereoPllQ15, w: &[u64; 17]) -> TurnQ15 {
-    match StereoPllQ15::new(f64_of(w[0]), f64_of(w[1]), f64_of(w[2]), f64_of(w[3]), f64_of(w[4])) {
+    match StereoPllQ15::new(
+        f64_of(w[0]),
+        f64_of(w[1]),
+        f64_of(w[2]),
+        f64_of(w[3]),
+        f64_of(w[4]),
+    ) {
         NewQ15::Made(n) => made(n),
         NewQ15::Refused(n) => TurnQ15 {
             words: [n as u64, 0, 0, 0, 0, 0, 0, 0, 0, 0, 0, 0],
@@ -116,7 +122,10 @@ fn sines(d: StereoPllQ15, size: i16, table: &[i16], out: &mut [i16]) {
     let mut p = d.phase;
     let mut i = 0usize;
     while i < out.len() {
-        out[i] = numbers::fixed::q15_mul(size, phase::lookup::cos_q15(table, phase::lookup::sine_at(p)));
+        out[i] = numbers::fixed::q15_mul(
+            size,
+            phase::lookup::cos_q15(table, phase::lookup::sine_at(p)),
+        );
         p = std::num::wrapping_add_u32(p, d.step0);
         i += 1;
     }
