@@ -1,7 +1,7 @@
 // The parts of a sample's steps that the f32 loops share.
 use blocks::answer::Answer;
+use floats::bits::is_finite_f32;
 use numbers::float::flush_denormal;
-use numbers::float::is_finite_f32;
 use pll::pll_f32::StereoPllF32;
 ghost use mathlib.Core.Path.{_≡_};
 ghost use lib.ListN.{length};
