@@ -1,3 +1,4 @@
 pub mod Samples
 pub mod Lengths
 pub mod Tests
+pub mod Whole

@@ -3,7 +3,7 @@ use mathlib.Core.Path.{refl}
 use lib.Ieee.{ofBits, round, add, sub, mul, neg, toSigned}
 use Rattle.rounding.specs.Cut.{restOf, cutBy}
 use Rattle.numbers.specs.Integers.{sat16Of, roundShiftOf}
-use Rattle.numbers.specs.Floats.{wholeOf}
+use Rattle.floats.specs.Floats.{wholeOf}
 use Rattle.numbers.specs.Scaled.{scaledOf}
 use Rattle.phase.specs.Lookup.{betweenQ15, cosQ15, cosF32}
 use Rattle.phase.specs.Correction.{correctionOf}

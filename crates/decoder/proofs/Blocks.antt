@@ -30,6 +30,9 @@ module _ {A : Type 0} (F : Arithmetic A) (t mpx pilot sum difference : List A) (
     wrong-length l = turned-back F t mpx pilot d sum difference s says-is (other k l)
 
     module _ (l : not a ≡ false) where
+      pub full-table : length t ≡ 4097
+      full-table = lengths-equal (length t) (length mpx) (length pilot) (length sum) (length difference) (rw e at (other k l)) .3
+
       pub runs : (length pilot ≡ length mpx) × (length sum ≡ length mpx) × (length difference ≡ length mpx) × (F .fit d ≡ true)
       runs =
           let n = lengths-equal (length t) (length mpx) (length pilot) (length sum) (length difference) (rw e at (other k l)) in

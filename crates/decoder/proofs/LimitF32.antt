@@ -15,7 +15,8 @@ use lib.Ieee.Scale.{finite}
 use Rattle.rounding.proofs.Bound.{Within, within-finite, round-within, lookup-within, le-of}
 use Rattle.rounding.proofs.Finite.{eq-zero}
 use Rattle.rounding.proofs.Order.{le-of-not-lt, le-self, neg-real, add-real, mul-real, mul-real', nonzero, between-finite}
-use Rattle.numbers.specs.Floats.{flushOf, absOf, tiny, toFormat, inRange}
+use Rattle.floats.specs.Floats.{absOf, toFormat, inRange}
+use Rattle.numbers.specs.Flush.{flushOf, tiny}
 use Rattle.phase.specs.Lookup.{cosF32, fracF32}
 use Rattle.blocks.specs.Answer.{accepts}
 use Rattle.pll.specs.State.{Pll, enabledOf, resetOf}

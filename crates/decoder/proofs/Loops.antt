@@ -63,9 +63,9 @@ module _ {A : Type 0} (F : Arithmetic A) (t mpx pilot : List A) (d : Pll A) wher
     carried-out h r = rw (← e, h, r .sums, r .differences, r .state)
 
 -- an accepted block has four equal lengths, and a table of 4097 entries
-pub lengths-equal : (t n p s d : ℕ) → accepts (lengthsSay t n p s d) ≡ true → (p ≡ n) × (s ≡ n) × (d ≡ n)
+pub lengths-equal : (t n p s d : ℕ) → accepts (lengthsSay t n p s d) ≡ true → (p ≡ n) × (s ≡ n) × (d ≡ n) × (t ≡ 4097)
 lengths-equal t n p s d h =
     let x = both (firstOf (firstOf (tableRule t) (inputRule n p)) (outputRule n s)) (outputRule n d) h in
     let y = both (firstOf (tableRule t) (inputRule n p)) (outputRule n s) (x .0) in
     let z = both (tableRule t) (inputRule n p) (y .0) in
-    (length-is p n _ refl (z .1), length-is s n _ refl (y .1), length-is d n _ refl (x .1))
+    (length-is p n _ refl (z .1), length-is s n _ refl (y .1), length-is d n _ refl (x .1), length-is t 4097 _ refl (z .0))

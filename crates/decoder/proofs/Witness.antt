@@ -14,7 +14,7 @@ use Rattle.blocks.specs.declared.answer.Answer.the-variants.{Accepted, Unfit, T
 use Rattle.pll.specs.State.{Pll, enabledOf, resetOf}
 use Rattle.decoder.specs.Machine.{Arithmetic, Blocked, lengthsSay, blockSays, blockOf}
 use Rattle.rounding.specs.Cut.{restOf, cutBy}
-use Rattle.numbers.specs.Floats.{wholeOf, toFormat}
+use Rattle.floats.specs.Floats.{wholeOf, toFormat}
 use Rattle.numbers.specs.Scaled.{scaledOf}
 use Rattle.decoder.specs.Formats.{f32, q15}
 use Rattle.pll.specs.Gains.{Gains, made, gainsOf, commonOf, freshF32, freshQ15, buildQ15, newF32Of, newQ15Of}

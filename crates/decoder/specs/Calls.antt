@@ -8,7 +8,7 @@ use lib.IntN.{ℤ, pos}
 use lib.Ieee.{Float, fin}
 use mir.Syntax.{w16}
 use mir.Val.{SFits}
-use Rattle.numbers.specs.Floats.{inRange}
+use Rattle.floats.specs.Floats.{inRange}
 use Rattle.blocks.specs.Answer.{Said, accepted, accepts}
 use Rattle.pll.specs.State.{Pll, enabledOf, resetOf}
 use Rattle.decoder.specs.Machine.{Arithmetic, stateAt, Blocked, blockOf}

@@ -7,7 +7,7 @@ use lib.Signed.{ltZ, leZ}
 use lib.Ieee.{Float, fin, binary32, add, sub, mul, le, lt, neg}
 use lib.Ieee.Scale.{finite}
 use Rattle.numbers.specs.Integers.{sat16Of, roundShiftOf, modZ}
-use Rattle.numbers.specs.Floats.{flushOf}
+use Rattle.numbers.specs.Flush.{flushOf}
 use Rattle.phase.specs.Lookup.{cosF32, cosQ15}
 use Rattle.phase.specs.Correction.{correctionOf}
 use Rattle.pll.specs.Fit.{fitQ15}

@@ -12,6 +12,7 @@ use crate::parts_f32::level_next;
 use crate::parts_f32::level_of;
 use crate::parts_f32::moved;
 use crate::parts_f32::stereo_of;
+use crate::parts_f32::whole;
 use crate::parts_f32::within;
 use blocks::answer::is_accepted;
 use phase::correction::correction_fast;
@@ -189,10 +190,11 @@ pub fn block(
     if !is_accepted(answer) {
         return ReplyF32 { answer, decoder: d };
     }
+    let cosines = whole(table);
     if scan(pilot) {
-        let decoder = run_clean(d, table, mpx, pilot, sum, difference);
+        let decoder = run_clean(d, cosines, mpx, pilot, sum, difference);
         return ReplyF32 { answer, decoder };
     }
-    let decoder = run_checked(d, table, mpx, pilot, sum, difference);
+    let decoder = run_checked(d, cosines, mpx, pilot, sum, difference);
     ReplyF32 { answer, decoder }
 }

@@ -1,9 +1,10 @@
 // The parts of a sample's steps that the f32 loops share.
 use blocks::answer::Answer;
+use floats::bits::is_finite_f32;
 use numbers::float::flush_denormal;
-use numbers::float::is_finite_f32;
 use pll::pll_f32::StereoPllF32;
 ghost use mathlib.Core.Path.{_≡_};
+ghost use lib.ListN.{length};
 ghost use mathlib.Core.Bool.{cond};
 ghost use Prim.Native.Nat.{_+_, _%_, _^_};
 ghost use lib.Ieee as Ieee;
@@ -23,6 +24,14 @@ pub struct StepF32 {
 pub struct ReplyF32 {
     pub answer: Answer,
     pub decoder: StereoPllF32,
+}
+
+// The table with its length written out, so that the compiler leaves the test out of each lookup.
+pub(crate) fn whole(table: &[f32]) -> &[f32]
+    requires { ⌜ length (now table) ≡ 4097 ⌝ }
+    ensures { λ r. ⌜ now r ≡ now (table .entry) ⌝ }
+{
+    &table[..4097]
 }
 
 pub(crate) fn level_next(beta: f32, level: f32, q: f32) -> f32

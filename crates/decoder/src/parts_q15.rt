@@ -6,6 +6,7 @@ use numbers::fixed::low32;
 use numbers::fixed::round_shift;
 use pll::pll_q15::StereoPllQ15;
 ghost use mathlib.Core.Path.{_≡_};
+ghost use lib.ListN.{length};
 ghost use mathlib.Core.Bool.{cond, true};
 ghost use mathlib.Core.List.{List};
 ghost use Prim.Native.Nat.{_+_, _*_, _≤_, _<_, _^_};
@@ -28,6 +29,14 @@ pub struct StepQ15 {
 pub struct ReplyQ15 {
     pub answer: Answer,
     pub decoder: StereoPllQ15,
+}
+
+// The table with its length written out, so that the compiler leaves the test out of each lookup.
+pub(crate) fn whole(table: &[i16]) -> &[i16]
+    requires { ⌜ length (now table) ≡ 4097 ⌝ }
+    ensures { λ r. ⌜ now r ≡ now (table .entry) ⌝ }
+{
+    &table[..4097]
 }
 
 pub(crate) fn decided(level: i64, on: i64, off: i64, was: bool) -> bool

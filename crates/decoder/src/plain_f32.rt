@@ -8,6 +8,7 @@ use crate::parts_f32::gathered;
 use crate::parts_f32::level_of;
 use crate::parts_f32::moved;
 use crate::parts_f32::stereo_of;
+use crate::parts_f32::whole;
 use crate::parts_f32::within;
 use blocks::answer::is_accepted;
 use phase::correction::correction_plain;
@@ -101,6 +102,7 @@ pub fn block(
     if !is_accepted(answer) {
         return ReplyF32 { answer, decoder: d };
     }
-    let decoder = run(d, table, mpx, pilot, sum, difference);
+    let cosines = whole(table);
+    let decoder = run(d, cosines, mpx, pilot, sum, difference);
     ReplyF32 { answer, decoder }
 }

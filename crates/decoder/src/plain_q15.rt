@@ -5,6 +5,7 @@ use crate::parts_q15::StepQ15;
 use crate::parts_q15::advanced;
 use crate::parts_q15::level_after;
 use crate::parts_q15::selected;
+use crate::parts_q15::whole;
 use blocks::answer::Answer;
 use blocks::answer::is_accepted;
 use numbers::fixed::q15_mul;
@@ -104,6 +105,7 @@ pub fn block(
     if !is_accepted(answer) {
         return ReplyQ15 { answer, decoder: d };
     }
-    let decoder = run(d, table, mpx, pilot, sum, difference);
+    let cosines = whole(table);
+    let decoder = run(d, cosines, mpx, pilot, sum, difference);
     ReplyQ15 { answer, decoder }
 }

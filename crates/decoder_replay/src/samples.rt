@@ -24,7 +24,7 @@ fn calm(v: u64) -> u64 {
 // From 1 down to -1 and up again over 4096 entries.
 fn triangle(i: usize) -> f64 {
     let k = i % 4096;
-    let x = numbers::float::i64_to_f64(k as i64) / 1024.0;
+    let x = floats::bits::i64_to_f64(k as i64) / 1024.0;
     if k < 2048 { 1.0 - x } else { x - 3.0 }
 }
 
@@ -39,7 +39,7 @@ fn any_f32(w: u64) -> f32 {
 fn sample_f32(spec: u64, i: usize) -> f32 {
     let seed = spec % 4294967296;
     match spec / 4294967296 {
-        1 => numbers::float::f64_to_f32(triangle(i)),
+        1 => floats::bits::f64_to_f32(triangle(i)),
         2 => lines::words::f32_of(seed),
         3 => lines::words::f32_of(calm(drawn(seed, i))),
         _ => any_f32(drawn(seed, i)),

@@ -9,7 +9,7 @@ use Rattle.phase.specs.Lookup.{sineAt, cosF32}
 use Rattle.phase.specs.Oscillator.{goodRate, turnOf, phaseSet}
 use Rattle.blocks.specs.Answer.{Said, firstOf, tableRule, inputRule, outputRule, kept}
 use Rattle.blocks.specs.Samples.{samples}
-use Rattle.numbers.specs.Floats.{inRange}
+use Rattle.floats.specs.Floats.{inRange}
 use Rattle.encode.specs.declared.encode.StereoEncode.{StereoEncode}
 use Rattle.encode.specs.declared.encode.NewEncode.{NewEncode}
 use Rattle.encode.specs.declared.encode.NewEncode.the-variants as new

@@ -5,7 +5,7 @@ use blocks::answer::is_accepted;
 use blocks::answer::table_rule;
 use blocks::answer::then_input;
 use blocks::answer::then_output;
-use numbers::float::is_finite_f64;
+use floats::bits::is_finite_f64;
 use phase::lookup::cos_f32;
 use phase::lookup::sine_at;
 use phase::lookup::sine_at_twice;

@@ -1,4 +1,2 @@
 pub mod Integers
-pub mod Floats
-pub mod Narrow
-pub mod Ints
+pub mod Flush

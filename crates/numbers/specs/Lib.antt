@@ -1,4 +1,3 @@
 pub mod Integers
-pub mod Floats
-pub mod Rules
+pub mod Flush
 pub mod Scaled

@@ -5,7 +5,7 @@ use lib.IntN.{ℤ, pos, negsuc}
 use lib.Signed.{ltZ}
 use lib.Ieee.{Float, fin, binary64, add, mul, toSigned, isNan}
 use Rattle.numbers.specs.Integers.{sat16Of}
-use Rattle.numbers.specs.Floats.{floorOf}
+use Rattle.floats.specs.Floats.{floorOf}
 use Rattle.numbers.specs.declared.scale.Q14.{Q14}
 use Rattle.numbers.specs.declared.scale.Q14.the-variants.{Value, Outside}
 

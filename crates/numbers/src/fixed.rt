@@ -2,15 +2,7 @@
 ghost use mathlib.Core.Path.{_≡_};
 ghost use Prim.Native.Nat.{_^_};
 ghost use lib.IntN.{_*ℤ_};
-ghost use Rattle.numbers.specs.Integers.{
-  sat16Of,
-  roundShiftOf,
-  q15MulOf,
-  q15AddOf,
-  q15SubOf,
-  modZ,
-  phaseTimes,
-};
+ghost use Rattle.numbers.specs.Integers.{sat16Of, roundShiftOf, q15MulOf, q15AddOf, q15SubOf, modZ, phaseTimes};
 
 // x limited to what an i16 holds.
 pub fn sat16(x: i64) -> i16

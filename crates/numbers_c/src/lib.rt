@@ -8,7 +8,8 @@ ghost use lib.Ieee.{binary32, binary64};
 ghost use lib.Ieee.Scale.{finite};
 ghost use Rattle.numbers.specs.Integers.{sat16Of, roundShiftOf, modZ, phaseTimes};
 ghost use Rattle.numbers.specs.Integers.{q15MulOf, q15AddOf, q15SubOf};
-ghost use Rattle.numbers.specs.Floats.{floorOf, halfEvenOf, toFormat, flushOf};
+ghost use Rattle.floats.specs.Floats.{floorOf, halfEvenOf, toFormat};
+ghost use Rattle.numbers.specs.Flush.{flushOf};
 ghost use Rattle.numbers.specs.Scaled.{scaledOf, q15FromOf, q14FromOf};
 ghost use Rattle.numbers_c.specs.Code.{codeOf};
 
@@ -79,56 +80,56 @@ pub extern "C" fn pescrondilu_phase_thrice(p: u32) -> u32
 pub extern "C" fn pescrondilu_floor_f64(x: f64) -> f64
     ensures { λ r. ⌜ r ≡ floorOf x ⌝ }
 {
-    numbers::float::floor_f64(x)
+    floats::bits::floor_f64(x)
 }
 
 #[no_mangle]
 pub extern "C" fn pescrondilu_half_even_f64(x: f64) -> f64
     ensures { λ r. ⌜ r ≡ halfEvenOf x ⌝ }
 {
-    numbers::float::half_even_f64(x)
+    floats::bits::half_even_f64(x)
 }
 
 #[no_mangle]
 pub extern "C" fn pescrondilu_f64_to_f32(x: f64) -> f32
     ensures { λ r. ⌜ r ≡ toFormat binary32 x ⌝ }
 {
-    numbers::float::f64_to_f32(x)
+    floats::bits::f64_to_f32(x)
 }
 
 #[no_mangle]
 pub extern "C" fn pescrondilu_i64_to_f64(n: i64) -> f64
     ensures { λ r. ⌜ r ≡ Ieee.ofInt binary64 n ⌝ }
 {
-    numbers::float::i64_to_f64(n)
+    floats::bits::i64_to_f64(n)
 }
 
 #[no_mangle]
 pub extern "C" fn pescrondilu_f64_to_i64(x: f64) -> i64
     ensures { λ r. ⌜ r ≡ Ieee.toSigned 63 x ⌝ }
 {
-    numbers::float::f64_to_i64(x)
+    floats::bits::f64_to_i64(x)
 }
 
 #[no_mangle]
 pub extern "C" fn pescrondilu_f32_to_f64(x: f32) -> f64
     ensures { λ r. ⌜ r ≡ x ⌝ }
 {
-    numbers::float::f32_to_f64(x)
+    floats::bits::f32_to_f64(x)
 }
 
 #[no_mangle]
 pub extern "C" fn pescrondilu_is_finite_f32(x: f32) -> bool
     ensures { λ r. ⌜ r ≡ finite x ⌝ }
 {
-    numbers::float::is_finite_f32(x)
+    floats::bits::is_finite_f32(x)
 }
 
 #[no_mangle]
 pub extern "C" fn pescrondilu_is_finite_f64(x: f64) -> bool
     ensures { λ r. ⌜ r ≡ finite x ⌝ }
 {
-    numbers::float::is_finite_f64(x)
+    floats::bits::is_finite_f64(x)
 }
 
 #[no_mangle]

@@ -55,14 +55,14 @@ fn whole(function: usize, a: u64, b: u64) -> u64 {
 // The functions on floats.
 fn float(function: usize, a: u64, b: u64) -> u64 {
     match function {
-        names::FLOOR_F64 => words::word_f64(numbers::float::floor_f64(words::f64_of(a))),
-        names::HALF_EVEN_F64 => words::word_f64(numbers::float::half_even_f64(words::f64_of(a))),
-        names::F64_TO_F32 => words::word_f32(numbers::float::f64_to_f32(words::f64_of(a))),
-        names::I64_TO_F64 => words::word_f64(numbers::float::i64_to_f64(words::i64_of(a))),
-        names::F64_TO_I64 => words::word_i64(numbers::float::f64_to_i64(words::f64_of(a))),
-        names::F32_TO_F64 => words::word_f64(numbers::float::f32_to_f64(words::f32_of(a))),
-        names::IS_FINITE_F32 => words::word_bool(numbers::float::is_finite_f32(words::f32_of(a))),
-        names::IS_FINITE_F64 => words::word_bool(numbers::float::is_finite_f64(words::f64_of(a))),
+        names::FLOOR_F64 => words::word_f64(floats::bits::floor_f64(words::f64_of(a))),
+        names::HALF_EVEN_F64 => words::word_f64(floats::bits::half_even_f64(words::f64_of(a))),
+        names::F64_TO_F32 => words::word_f32(floats::bits::f64_to_f32(words::f64_of(a))),
+        names::I64_TO_F64 => words::word_f64(floats::bits::i64_to_f64(words::i64_of(a))),
+        names::F64_TO_I64 => words::word_i64(floats::bits::f64_to_i64(words::f64_of(a))),
+        names::F32_TO_F64 => words::word_f64(floats::bits::f32_to_f64(words::f32_of(a))),
+        names::IS_FINITE_F32 => words::word_bool(floats::bits::is_finite_f32(words::f32_of(a))),
+        names::IS_FINITE_F64 => words::word_bool(floats::bits::is_finite_f64(words::f64_of(a))),
         names::FLUSH_DENORMAL => words::word_f32(numbers::float::flush_denormal(words::f32_of(a))),
         names::FLOOR_SCALED => {
             words::word_i64(numbers::scale::floor_scaled(words::f64_of(a), words::f64_of(b)))

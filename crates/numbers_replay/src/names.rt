@@ -45,7 +45,7 @@ pub const Q14_FROM_F64: usize = 20;
 pub const COUNT: usize = 21;
 
 // The names in this order, as they begin a line: 16 columns each.
-pub const NAMES: [u8; 336] = *b"\
+pub const NAMES: [u8; 16 * COUNT] = *b"\
     sat16           \
     round_shift     \
     q15_product     \

@@ -17,9 +17,9 @@ use Rattle.rounding.proofs.Cut.{cut-downward, greatest-div, closest-rose}
 use Rattle.rounding.proofs.Round.{exact-at, closest-ge, closest-le, integer-value, integer-bits}
 use Rattle.rounding.proofs.Value.{same-test, lt-at, shifted, add-whole, gap, sub-whole, toSigned-whole, value-real}
 use Rattle.numbers.specs.Integers.{modZ}
-use Rattle.numbers.specs.Floats.{floorOf}
+use Rattle.floats.specs.Floats.{floorOf}
 use Rattle.numbers.specs.Scaled.{scaledOf}
-use Rattle.numbers.proofs.Floats.{whole-at}
+use Rattle.floats.proofs.Floats.{whole-at}
 use Rattle.phase.specs.declared.correction.Quick.the-variants.{Step, Wide}
 use Rattle.phase.specs.Correction.{correctionOf, limit, quickOf}
 

@@ -5,7 +5,7 @@ use lib.IntN.{pos}
 use lib.Ieee.{Float, fin, binary64, div, sub, mul, lt, toSigned}
 use lib.Ieee.Scale.{finite}
 use Rattle.numbers.specs.Integers.{modZ}
-use Rattle.numbers.specs.Floats.{floorOf, halfEvenOf}
+use Rattle.floats.specs.Floats.{floorOf, halfEvenOf}
 use Rattle.phase.specs.declared.oscillator.Nco.{Nco}
 use Rattle.phase.specs.declared.oscillator.Increment.{Increment}
 use Rattle.phase.specs.declared.oscillator.Increment.the-variants as increment

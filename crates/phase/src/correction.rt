@@ -16,7 +16,7 @@ pub enum Quick {
 pub fn correction_plain(f: f32) -> u32
     ensures { λ r. ⌜ r ≡ correctionOf f ⌝ }
 {
-    let x = numbers::float::f32_to_f64(f);
+    let x = floats::bits::f32_to_f64(f);
     numbers::fixed::low32(numbers::scale::floor_scaled(x, 4294967296.0))
 }
 
@@ -24,7 +24,7 @@ pub fn correction_plain(f: f32) -> u32
 pub fn correction_quick(f: f32) -> Quick
     ensures { λ r. ⌜ r ≡ quickOf f ⌝ }
 {
-    let v = numbers::float::f32_to_f64(f) * 4294967296.0 + 0.5;
+    let v = floats::bits::f32_to_f64(f) * 4294967296.0 + 0.5;
     if v > -2251799813685248.0 {
         if v < 2251799813685248.0 {
             let m = v + MAGIC;

@@ -37,23 +37,23 @@ pub enum SetNco {
 pub fn turn(cycles: f64) -> u32
     ensures { λ r. ⌜ r ≡ turnOf cycles ⌝ }
 {
-    let frac = cycles - numbers::float::floor_f64(cycles);
-    let scaled = numbers::float::half_even_f64(frac * 4294967296.0);
-    numbers::fixed::low32(numbers::float::f64_to_i64(scaled))
+    let frac = cycles - floats::bits::floor_f64(cycles);
+    let scaled = floats::bits::half_even_f64(frac * 4294967296.0);
+    numbers::fixed::low32(floats::bits::f64_to_i64(scaled))
 }
 
 // The increment of a frequency at a rate.
 pub fn increment_for(freq: f64, rate: f64) -> Increment
     ensures { λ r. ⌜ r ≡ incrementOf freq rate ⌝ }
 {
-    if !numbers::float::is_finite_f64(rate) {
+    if !floats::bits::is_finite_f64(rate) {
         return Increment::Refused(1);
     }
     if !(rate > 0.0) {
         return Increment::Refused(1);
     }
     let cycles = freq / rate;
-    if !numbers::float::is_finite_f64(cycles) {
+    if !floats::bits::is_finite_f64(cycles) {
         return Increment::Refused(17);
     }
     Increment::Turn(turn(cycles))

@@ -13,7 +13,7 @@ use lib.Ieee.Scale.{finite}
 use lib.Ieee.Fits.{down-pos}
 use Rattle.rounding.proofs.Lin.{up-neg, dn-neg, le-yes}
 use Rattle.rounding.proofs.Finite.{round-zero, eq-zero}
-use Rattle.numbers.specs.Floats.{toFormat, inRange}
+use Rattle.floats.specs.Floats.{toFormat, inRange}
 use Rattle.phase.specs.Oscillator.{goodRate}
 use Rattle.pll.specs.State.{Pll}
 use Rattle.pll.specs.Fit.{withinZ, fits64, guardOf, fitQ15}

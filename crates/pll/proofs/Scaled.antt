@@ -18,7 +18,7 @@ use Rattle.rounding.proofs.Cut.{cut-downward}
 use Rattle.rounding.proofs.Lin.{le-yes-in}
 use Rattle.rounding.proofs.Round.{exact-at}
 use Rattle.rounding.proofs.Value.{toSigned-whole}
-use Rattle.numbers.specs.Floats.{wholeOf, floorOf}
+use Rattle.floats.specs.Floats.{wholeOf, floorOf}
 use Rattle.numbers.specs.Scaled.{scaledOf}
 use Rattle.pll.specs.Gains.{power, nought}
 

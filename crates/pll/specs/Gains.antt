@@ -5,7 +5,7 @@ use lib.IntN.{ℤ, pos, negsuc}
 use lib.Ieee.{Float, fin, Format, binary32, binary64, ofBits, add, mul, div, lt, le, eq}
 use lib.Ieee.Scale.{finite}
 use Rattle.numbers.specs.Integers.{modZ}
-use Rattle.numbers.specs.Floats.{floorOf, absOf, toFormat, inRange}
+use Rattle.floats.specs.Floats.{floorOf, absOf, toFormat, inRange}
 use Rattle.numbers.specs.Scaled.{scaledOf}
 use Rattle.phase.specs.Oscillator.{goodRate}
 use Rattle.pll.specs.State.{Pll}

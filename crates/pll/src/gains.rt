@@ -1,8 +1,8 @@
 // A decoder's gains in f64, and the causes that both formats share.
+use floats::bits::f64_to_f32;
+use floats::bits::is_finite_f32;
+use floats::bits::is_finite_f64;
 use numbers::fixed::low32;
-use numbers::float::f64_to_f32;
-use numbers::float::is_finite_f32;
-use numbers::float::is_finite_f64;
 use numbers::scale::floor_scaled;
 ghost use mathlib.Core.Path.{_≡_};
 ghost use Rattle.pll.specs.Gains.{gainsOf, positive, narrows, allNarrow, commonOf};

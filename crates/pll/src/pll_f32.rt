@@ -2,8 +2,8 @@
 use crate::gains::Checked;
 use crate::gains::LoopGains;
 use crate::gains::common;
-use numbers::float::f32_to_f64;
-use numbers::float::f64_to_f32;
+use floats::bits::f32_to_f64;
+use floats::bits::f64_to_f32;
 ghost use mathlib.Core.Path.{_≡_};
 ghost use mathlib.Core.Bool.{true, false};
 ghost use Rattle.pll.specs.State.{enabledOf, resetOf};

@@ -2,8 +2,8 @@
 use crate::gains::Checked;
 use crate::gains::LoopGains;
 use crate::gains::common;
-use numbers::float::floor_f64;
-use numbers::float::i64_to_f64;
+use floats::bits::floor_f64;
+use floats::bits::i64_to_f64;
 use numbers::scale::floor_scaled;
 ghost use mathlib.Core.Path.{_≡_};
 ghost use mathlib.Core.Bool.{true, false};

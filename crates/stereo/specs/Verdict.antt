@@ -2,7 +2,7 @@
 use mathlib.Core.Bool.{Bool, false}
 use lib.IntN.{negsuc}
 use lib.Ieee.{Float, fin}
-use Rattle.numbers.specs.Floats.{inRange}
+use Rattle.floats.specs.Floats.{inRange}
 
 -- the f32 nearest 0.08 (pattern 0x3DA3D70A) and nearest 0.1 (0x3DCCCCCD)
 abbrev pub eight : Float

@@ -37,7 +37,7 @@ pub const ENCODE_RDS: usize = 16;
 pub const COUNT: usize = 17;
 
 // The names in this order, as they begin a line: 16 columns each.
-pub const NAMES: [u8; 272] = *b"\
+pub const NAMES: [u8; 16 * COUNT] = *b"\
     cos_f32         \
     pair_c          \
     pair_s          \

@@ -28,14 +28,20 @@ returns c =
     let a = start l .args in
     turned-back f32 (a .table .now) (a .mpx .now) (a .pilot .now) (pllF32 (a .d)) (a .sum .now) (a .difference .now) _ (l .block-lengths .ensures) (failed (c .before .is-accepted .ensures) (c .if1 .taken))
 
+lengths : (e : tie.Else1) → let a = start (e .before .before) .args in (length (a .pilot .now) ≡ length (a .mpx .now)) × (length (a .sum .now) ≡ length (a .mpx .now)) × (length (a .difference .now) ≡ length (a .mpx .now)) × (length (a .table .now) ≡ 4097)
+lengths e = lengths-equal _ _ _ _ _ (sym (ap accepts (e .before .before .block-lengths .ensures)) ∙ taken e)
+
+whole-requires : tie.Need-whole-requires
+whole-requires c κs = lengths c .3
+
 scan-requires : tie.Need-scan-requires
 scan-requires c κs = search needs
 
 run-clean-requires : tie.Need-run-clean-requires
 run-clean-requires c κs =
-    let e = c .before .before .before .before in
-    let k = lengths-equal (length (start (e .before .before) .args .table .now)) _ _ _ _ (sym (ap accepts (e .before .before .block-lengths .ensures)) ∙ taken e) in
-    (k .0, k .1, k .2, sym (c .before .before .before .scan .ensures) ∙ c .before .before .if2 .taken)
+    let i = c .before .before in
+    let k = lengths (i .before .before .before) in
+    (k .0, k .1, k .2, sym (i .before .scan .ensures) ∙ i .if2 .taken)
 
 same-length : tie.Need-same-length
 same-length c = search needs
@@ -46,16 +52,14 @@ same-length-2 c = search needs
 returns-2 : tie.Need-returns-2
 returns-2 c =
     let r = c .before .before .before .before in
-    let e = r .before .before .before .before .before in
+    let w = r .before .before .before .before .before in
+    let e = w .before in
     let l = e .before .before in
     let a = start l .args in
-    carried-out f32 (a .table .now) (a .mpx .now) (a .pilot .now) (pllF32 (a .d)) (a .sum .now) (a .difference .now) _ (l .block-lengths .ensures) (taken e) (r .run-clean .ensures)
+    carried-out f32 (a .table .now) (a .mpx .now) (a .pilot .now) (pllF32 (a .d)) (a .sum .now) (a .difference .now) _ (l .block-lengths .ensures) (taken e) (rw (w .whole .ensures) at (r .run-clean .ensures))
 
 run-checked-requires : tie.Need-run-checked-requires
-run-checked-requires c κs =
-    let e = c .before .before .before .before in
-    let k = lengths-equal (length (start (e .before .before) .args .table .now)) _ _ _ _ (sym (ap accepts (e .before .before .block-lengths .ensures)) ∙ taken e) in
-    (k .0, k .1, k .2)
+run-checked-requires c κs = let k = lengths (c .before .before .before .before .before) in (k .0, k .1, k .2)
 
 same-length-3 : tie.Need-same-length-3
 same-length-3 c = search needs
@@ -66,10 +70,11 @@ same-length-4 c = search needs
 returns-3 : tie.Need-returns-3
 returns-3 c =
     let r = c .before .before .before .before in
-    let e = r .before .before .before .before .before in
+    let w = r .before .before .before .before .before in
+    let e = w .before in
     let l = e .before .before in
     let a = start l .args in
-    carried-out f32 (a .table .now) (a .mpx .now) (a .pilot .now) (pllF32 (a .d)) (a .sum .now) (a .difference .now) _ (l .block-lengths .ensures) (taken e) (r .run-checked .ensures)
+    carried-out f32 (a .table .now) (a .mpx .now) (a .pilot .now) (pllF32 (a .d)) (a .sum .now) (a .difference .now) _ (l .block-lengths .ensures) (taken e) (rw (w .whole .ensures) at (r .run-checked .ensures))
 
 pub block-spec : {M : Type 1} → statement M
 block-spec =
@@ -78,6 +83,7 @@ block-spec =
     block-lengths-requires
     is-accepted-requires
     returns
+    whole-requires
     scan-requires
     run-clean-requires
     same-length

@@ -28,11 +28,14 @@ returns c =
     let a = start l .args in
     turned-back f32 (a .table .now) (a .mpx .now) (a .pilot .now) (pllF32 (a .d)) (a .sum .now) (a .difference .now) _ (l .block-lengths .ensures) (failed (c .before .is-accepted .ensures) (c .if1 .taken))
 
+lengths : (e : tie.Else1) → let a = start (e .before .before) .args in (length (a .pilot .now) ≡ length (a .mpx .now)) × (length (a .sum .now) ≡ length (a .mpx .now)) × (length (a .difference .now) ≡ length (a .mpx .now)) × (length (a .table .now) ≡ 4097)
+lengths e = lengths-equal _ _ _ _ _ (sym (ap accepts (e .before .before .block-lengths .ensures)) ∙ taken e)
+
+whole-requires : tie.Need-whole-requires
+whole-requires c κs = lengths c .3
+
 run-requires : tie.Need-run-requires
-run-requires c κs =
-    let e = c .before .before in
-    let k = lengths-equal (length (start (e .before .before) .args .table .now)) _ _ _ _ (sym (ap accepts (e .before .before .block-lengths .ensures)) ∙ taken e) in
-    (k .0, k .1, k .2)
+run-requires c κs = let k = lengths (c .before .before .before) in (k .0, k .1, k .2)
 
 same-length : tie.Need-same-length
 same-length c = search needs
@@ -43,10 +46,11 @@ same-length-2 c = search needs
 returns-2 : tie.Need-returns-2
 returns-2 c =
     let r = c .before .before .before .before in
-    let e = r .before .before .before in
+    let w = r .before .before .before in
+    let e = w .before in
     let l = e .before .before in
     let a = start l .args in
-    carried-out f32 (a .table .now) (a .mpx .now) (a .pilot .now) (pllF32 (a .d)) (a .sum .now) (a .difference .now) _ (l .block-lengths .ensures) (taken e) (r .run .ensures)
+    carried-out f32 (a .table .now) (a .mpx .now) (a .pilot .now) (pllF32 (a .d)) (a .sum .now) (a .difference .now) _ (l .block-lengths .ensures) (taken e) (rw (w .whole .ensures) at (r .run .ensures))
 
 pub block-spec : {M : Type 1} → statement M
 block-spec =
@@ -55,6 +59,7 @@ block-spec =
     block-lengths-requires
     is-accepted-requires
     returns
+    whole-requires
     run-requires
     same-length
     same-length-2

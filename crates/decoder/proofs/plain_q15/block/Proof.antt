@@ -1,7 +1,7 @@
 use borrow.Author.Needs.{needs}
 use Rattle.blocks.specs.Answer.{says}
 use Rattle.decoder.specs.Formats.{q15}
-use Rattle.decoder.proofs.Blocks.{unfit, wrong-length, runs, ran}
+use Rattle.decoder.proofs.Blocks.{unfit, wrong-length, full-table, runs, ran}
 use Rattle.decoder.proofs.plain_q15.block.Statement.{statement}
 use Rattle.decoder.proofs.plain_q15.block.Tie as tie
 
@@ -23,9 +23,16 @@ returns-2 c =
     let f = l .before in
     wrong-length q15 _ _ _ _ _ _ (f .before .is-fit .ensures) (f .if1 .left) (says (l .block-lengths .result)) (l .block-lengths .ensures) (c .before .is-accepted .ensures) (c .if2 .taken)
 
+whole-requires : tie.Need-whole-requires
+whole-requires c κs =
+    let l = c .before .before in
+    let f = l .before in
+    let a = f .before .before .args in
+    full-table q15 (a .table .now) (a .mpx .now) (a .pilot .now) (a .sum .now) (a .difference .now) _ (f .before .is-fit .ensures) (f .if1 .left) (says (l .block-lengths .result)) (l .block-lengths .ensures) (c .before .is-accepted .ensures) (c .if2 .left)
+
 run-requires : tie.Need-run-requires
 run-requires c κs =
-    let e = c .before .before in
+    let e = c .before .before .before in
     let l = e .before .before in
     let f = l .before in
     let a = f .before .before .args in
@@ -40,10 +47,11 @@ same-length-2 c = search needs
 returns-3 : tie.Need-returns-3
 returns-3 c =
     let r = c .before .before in
-    let e = r .before .before .before in
+    let w = r .before .before .before in
+    let e = w .before in
     let l = e .before .before in
     let f = l .before in
-    ran q15 _ _ _ _ _ _ (f .before .is-fit .ensures) (f .if1 .left) (says (l .block-lengths .result)) (l .block-lengths .ensures) (e .before .is-accepted .ensures) (e .if2 .left) (r .run .ensures)
+    ran q15 _ _ _ _ _ _ (f .before .is-fit .ensures) (f .if1 .left) (says (l .block-lengths .result)) (l .block-lengths .ensures) (e .before .is-accepted .ensures) (e .if2 .left) (rw (w .whole .ensures) at (r .run .ensures))
 
 pub block-spec : {M : Type 1} → statement M
 block-spec =
@@ -54,6 +62,7 @@ block-spec =
     block-lengths-requires
     is-accepted-requires
     returns-2
+    whole-requires
     run-requires
     same-length
     same-length-2

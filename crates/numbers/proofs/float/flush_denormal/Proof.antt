@@ -1,5 +1,5 @@
 use lib.Ieee.{ofBits, neg}
-use Rattle.numbers.proofs.Floats.{two-tests}
+use Rattle.numbers.proofs.Flush.{two-tests}
 use Rattle.numbers.proofs.float.flush_denormal.Statement.{statement}
 use Rattle.numbers.proofs.float.flush_denormal.Tie as tie
 

@@ -5,7 +5,7 @@ use mathlib.Core.Bool.{Bool, true, false, not, _&&_}
 use borrow.Author.Tests.{not-true, not-false}
 use lib.IntN.{pos}
 use lib.Ieee.{Float, fin, binary64, ofBits, div, lt, le}
-use Rattle.numbers.specs.Floats.{inRange}
+use Rattle.floats.specs.Floats.{inRange}
 use Rattle.pll.specs.Gains.{nought, positive, allNarrow, commonOf, gainsOf}
 use Rattle.pll.specs.Records.{gains}
 use Rattle.pll.proofs.gains.common.Statement.{statement}

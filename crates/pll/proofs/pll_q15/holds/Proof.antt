@@ -8,7 +8,7 @@ use borrow.Author.Tests.{lt-ltb}
 use lib.Dec.{ltb, lit<}
 use lib.Ieee.{Float, nan, inf, fin, up, down, ofBits, lt, neg}
 use lib.Ieee.Fits.{down-pos}
-use Rattle.numbers.specs.Floats.{absOf}
+use Rattle.floats.specs.Floats.{absOf}
 use Rattle.pll.specs.Gains.{power}
 use Rattle.pll.proofs.pll_q15.holds.Statement.{statement}
 use Rattle.pll.proofs.pll_q15.holds.Tie as tie

@@ -6,7 +6,7 @@ use lib.IntN.{pos}
 use lib.Ieee.{Float, fin, ofBits, binary64, div, le, lt}
 use Rattle.phase.specs.Oscillator.{goodRate, turnOf}
 use Rattle.encode.specs.declared.encode.NewEncode.the-variants.{Made, Refused}
-use Rattle.numbers.specs.Floats.{inRange}
+use Rattle.floats.specs.Floats.{inRange}
 use Rattle.encode.specs.Encode.{goodLevel, newEncodeOf}
 use Rattle.blocks.proofs.Tests.{failed, passed}
 use Rattle.encode.proofs.encode.StereoEncode.new.Statement.{statement}

@@ -1,0 +1,115 @@
+-- Laws of the float definitions, by any fraction that a value equals (`HasValue x s a c`: x is finite, has the sign s and is a / c). Assumes nothing.
+use Prim.Native.Nat.{ℕ, zero, suc, _+_, _-_, _*_, _/_, _%_, _^_, _≤_, _<_}
+use mathlib.Core.Path.{_≡_, refl, sym, ap, _∙_, subst}
+use mathlib.Core.Bool.{Bool, true, false, not, cond}
+use native.Mathlib.Omega.{arith}
+use native.Mathlib.Nat.{mul-pos, mul-one, mul-assoc, mod-lt, div-le-self, le-trans, lt-of-lt-of-le}
+use borrow.Author.Tests.{lt-ltb, le-leb, lt-leb}
+use lib.Dec.{T, ltb, leb, le→leb, lit<}
+use lib.IntN.{pos}
+use lib.Pow.{pow-add, pow-pos}
+use lib.Ieee.{Float, nan, inf, fin, Format, binary64, up, down, lt, ne, neg, ofInt, round, fits, isNan, inFloat, toBits, top}
+use lib.Ieee.Compare.{differs-from-itself}
+use lib.Ieee.Fits.{down-pos}
+use lib.Ieee.Exact.{HasValue}
+use lib.Ieee.Scale.{finite, round-same}
+use Rattle.rounding.specs.Cut.{Rule, cutBy}
+use Rattle.rounding.specs.Pattern.{field, sig, digits}
+use Rattle.rounding.proofs.Cut.{cut-same, cut-whole, cut-le}
+use Rattle.rounding.proofs.Round.{value-same}
+use Rattle.rounding.proofs.Pattern.{sig-is, sig-lt, decode, finite-of-field, round-neg}
+use Rattle.rounding.proofs.Own.{round-own}
+use Rattle.floats.specs.Floats.{wholeOf, toFormat}
+
+-- ---- the digits of an f64, by the fields of its pattern
+pub digits-low : (b : ℕ) → b % 9223372036854775808 < 4503599627370496 → b % 4503599627370496 ≡ digits binary64 b
+digits-low b h = ap (λ (z : ℕ). sig binary64 z (b % 4503599627370496)) (sym (none b h))
+  where
+    none : (b : ℕ) → b % 9223372036854775808 < 4503599627370496 → b % 9223372036854775808 / 4503599627370496 ≡ 0
+    none b h = omega arith
+
+pub digits-high : (b : ℕ) → 4503599627370496 ≤ b % 9223372036854775808 → 4503599627370496 + b % 4503599627370496 ≡ digits binary64 b
+digits-high b h = sym (sig-is (field binary64 b) (b % 4503599627370496) (some b h))
+  where
+    some : (b : ℕ) → 4503599627370496 ≤ b % 9223372036854775808 → 0 < b % 9223372036854775808 / 4503599627370496
+    some b h = omega arith
+
+pub digits-lt : (b : ℕ) → digits binary64 b < 2 ^ 53
+digits-lt b = sig-lt binary64 (field binary64 b) (b % 4503599627370496) (mod-lt b (lit< tt))
+
+-- ---- x as a whole number
+pub whole-at : (r : Rule) (x : Float) (s : Bool) (a c : ℕ) → 0 < c → HasValue x s a c → wholeOf r x ≡ round binary64 s (cutBy r s a c) 1
+unfolding wholeOf
+whole-at r nan s a c C v = absurd v
+whole-at r (inf t) s a c C v = absurd v
+whole-at r (fin t m e) s a c C v =
+    ap (λ (z : Bool). round binary64 z (cutBy r z (m * up e) (down e)) 1) (v .0)
+    ∙ ap (λ (z : ℕ). round binary64 s z 1) (cut-same r s (m * up e) (down e) a c (down-pos e) C (v .1))
+
+-- a whole number stays
+pub whole-same : (r : Rule) (x : Float) (s : Bool) (n : ℕ) → T (fits binary64 x) → T (finite x) → HasValue x s n 1 → x ≡ wholeOf r x
+whole-same r x s n h k v = sym (whole-at r x s n 1 (lit< tt) v ∙ ap (λ (z : ℕ). round binary64 s z 1) (cut-whole r s n) ∙ round-own binary64 x s n 1 (lit< tt) h k v)
+
+pub whole-nan : (r : Rule) (x : Float) → ne x x ≡ true → x ≡ wholeOf r x
+unfolding wholeOf
+whole-nan r x h = let e = differs-from-itself x (subst T (sym h) tt) in e ∙ ap (wholeOf r) (sym e)
+
+-- by the pattern b of x
+module _ (r : Rule) (x : Float) (held : T (fits binary64 x)) (real : T (not (isNan x))) where
+  abbrev b : ℕ
+  b = toBits binary64 x
+
+  abbrev s : Bool
+  s = leb (top binary64) b
+
+  abbrev E : ℕ
+  E = field binary64 b
+
+  value : T (finite x) → HasValue x s (digits binary64 b * 2 ^ (E - 1)) (2 ^ 1074)
+  value k = decode binary64 x b held k refl
+
+  -- from 2^52 up no digit stands below 1
+  pub whole-big : 1075 ≤ E → x ≡ wholeOf r x
+  whole-big h = go x refl
+    where
+      split : (E : ℕ) → 1075 ≤ E → E - 1 ≡ E - 1075 + 1074
+      split E h = omega arith
+
+      go : (y : Float) → x ≡ y → x ≡ wholeOf r x
+      go nan e = absurd (unfold isNan in subst (λ (z : Float). T (not (isNan z))) e real)
+      go (inf t) e = e ∙ unfold wholeOf in ap (wholeOf r) (sym e)
+      go (fin t m d) e =
+          let k : T (finite x) = subst (λ (z : Float). T (finite z)) (sym e) tt in
+          let D = digits binary64 b in
+          whole-same r x s (D * 2 ^ (E - 1075)) held k
+          (value-same x s (D * 2 ^ (E - 1)) (2 ^ 1074) (D * 2 ^ (E - 1075)) 1 (pow-pos 1074)
+          (mul-assoc D (2 ^ (E - 1075)) (2 ^ 1074) ∙ ap (λ (z : ℕ). D * z) (sym (pow-add 2 (E - 1075) 1074) ∙ ap (λ (z : ℕ). 2 ^ z) (sym (split E h))) ∙ sym (mul-one (D * 2 ^ (E - 1)))) (value k))
+
+  -- below it the digits are cut at the place of 1
+  whole-cut : E < 1075 → wholeOf r x ≡ round binary64 s (cutBy r s (digits binary64 b) (2 ^ (1074 - (E - 1)))) 1
+  whole-cut h =
+      let D = digits binary64 b in
+      let k = finite-of-field binary64 x real (λ e. omega arith) in
+      whole-at r x s (D * 2 ^ (E - 1)) (2 ^ 1074) (pow-pos 1074) (value k)
+      ∙ ap (λ (z : ℕ). round binary64 s z 1)
+      (cut-same r s (D * 2 ^ (E - 1)) (2 ^ 1074) D (2 ^ (1074 - (E - 1))) (pow-pos 1074) (pow-pos (1074 - (E - 1)))
+      (mul-assoc D (2 ^ (E - 1)) (2 ^ (1074 - (E - 1))) ∙ ap (λ (z : ℕ). D * z) (sym (pow-add 2 (E - 1) (1074 - (E - 1))) ∙ ap (λ (z : ℕ). 2 ^ z) (place E h))))
+    where
+      place : (E : ℕ) → E < 1075 → E - 1 + (1074 - (E - 1)) ≡ 1074
+      place E h = omega arith
+
+  module _ (n : ℕ) (h : E < 1075) where
+    pub whole-plain : b < 9223372036854775808 → n ≡ cutBy r false (digits binary64 b) (2 ^ (1074 - (E - 1))) → ofInt binary64 (pos n) ≡ wholeOf r x
+    unfolding ofInt
+    whole-plain l e = rw e (sym (rw (lt-leb (top binary64) b l) at (whole-cut h)))
+
+    pub whole-minus : 9223372036854775808 ≤ b → n ≡ cutBy r true (digits binary64 b) (2 ^ (1074 - (E - 1))) → neg (ofInt binary64 (pos n)) ≡ wholeOf r x
+    unfolding ofInt
+    whole-minus l e = rw (e, round-neg binary64 (cutBy r true (digits binary64 b) (2 ^ (1074 - (E - 1)))) 1) (sym (rw (le-leb (top binary64) b l) at (whole-cut h)))
+
+-- the cut digits are at most 2^53, where `as` is defined
+pub whole-cast : (r : Rule) (s : Bool) (b n : ℕ) → n ≡ cutBy r s (digits binary64 b) (2 ^ (1074 - (field binary64 b - 1))) → T (inFloat binary64 (pos n))
+unfolding inFloat
+whole-cast r s b n e =
+    let u = 2 ^ (1074 - (field binary64 b - 1)) in
+    le→leb n 9007199254740992 (omega (arith, cut-le r s (digits binary64 b) u, div-le-self (digits binary64 b) u, digits-lt b))
