@@ -1,6 +1,6 @@
 use borrow.Author.Needs.{needs}
-use Rattle.phase.proofs.oscillator.Nco.set_frequency.Statement.{statement}
-use Rattle.phase.proofs.oscillator.Nco.set_frequency.Tie as tie
+use Rattle.oscillator.proofs.nco.Nco.new.Statement.{statement}
+use Rattle.oscillator.proofs.nco.Nco.new.Tie as tie
 
 increment-for-requires : tie.Need-increment-for-requires
 increment-for-requires c κs = search needs
@@ -17,5 +17,5 @@ returns c = rw (← c .before .before .before .increment-for .ensures, c .before
 returns-2 : tie.Need-returns-2
 returns-2 c = rw (← c .before .before .before .increment-for .ensures, c .before .n .given .1)
 
-pub set-frequency-spec : {M : Type 1} → statement M
-set-frequency-spec = tie.close (tie.spec increment-for-requires enum-known-inc enum-known-n returns returns-2)
+pub new-spec : {M : Type 1} → statement M
+new-spec = tie.close (tie.spec increment-for-requires enum-known-inc enum-known-n returns returns-2)

@@ -3,8 +3,8 @@ use mathlib.Core.Path.{_≡_, sym, ap, _∙_}
 use native.Mathlib.Omega.{arith}
 use native.Mathlib.Nat.{add-mul, mul-right-comm, mul-le-mul, div-add-mod'}
 use borrow.Author.Needs.{needs}
-use Rattle.phase.proofs.oscillator.Nco.advance.Statement.{statement}
-use Rattle.phase.proofs.oscillator.Nco.advance.Tie as tie
+use Rattle.oscillator.proofs.nco.Nco.advance.Statement.{statement}
+use Rattle.oscillator.proofs.nco.Nco.advance.Tie as tie
 
 abbrev m : ℕ
 m = 2 ^ 32

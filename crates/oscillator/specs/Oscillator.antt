@@ -6,13 +6,13 @@ use lib.Ieee.{Float, fin, binary64, div, sub, mul, lt, toSigned}
 use lib.Ieee.Scale.{finite}
 use Rattle.numbers.specs.Integers.{modZ}
 use Rattle.floats.specs.Floats.{floorOf, halfEvenOf}
-use Rattle.phase.specs.declared.oscillator.Nco.{Nco}
-use Rattle.phase.specs.declared.oscillator.Increment.{Increment}
-use Rattle.phase.specs.declared.oscillator.Increment.the-variants as increment
-use Rattle.phase.specs.declared.oscillator.NewNco.{NewNco}
-use Rattle.phase.specs.declared.oscillator.NewNco.the-variants as new
-use Rattle.phase.specs.declared.oscillator.SetNco.{SetNco}
-use Rattle.phase.specs.declared.oscillator.SetNco.the-variants as set
+use Rattle.oscillator.specs.declared.nco.Nco.{Nco}
+use Rattle.oscillator.specs.declared.nco.Increment.{Increment}
+use Rattle.oscillator.specs.declared.nco.Increment.the-variants as increment
+use Rattle.oscillator.specs.declared.nco.NewNco.{NewNco}
+use Rattle.oscillator.specs.declared.nco.NewNco.the-variants as new
+use Rattle.oscillator.specs.declared.nco.SetNco.{SetNco}
+use Rattle.oscillator.specs.declared.nco.SetNco.the-variants as set
 
 -- a rate that is finite and above 0
 abbrev pub goodRate : Float → Bool

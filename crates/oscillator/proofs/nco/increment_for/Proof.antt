@@ -4,10 +4,10 @@ use mathlib.Core.Path.{_≡_, refl, sym, ap, _∙_}
 use mathlib.Core.Bool.{Bool, true, _&&_, cond}
 use lib.Ieee.{Float, ofBits, binary64, div, lt}
 use lib.Ieee.Scale.{finite}
-use Rattle.phase.specs.declared.oscillator.Increment.the-variants.{Turn, Refused}
-use Rattle.phase.specs.Oscillator.{incrementOf, turnOf}
-use Rattle.phase.proofs.oscillator.increment_for.Statement.{statement}
-use Rattle.phase.proofs.oscillator.increment_for.Tie as tie
+use Rattle.oscillator.specs.declared.nco.Increment.the-variants.{Turn, Refused}
+use Rattle.oscillator.specs.Oscillator.{incrementOf, turnOf}
+use Rattle.oscillator.proofs.nco.increment_for.Statement.{statement}
+use Rattle.oscillator.proofs.nco.increment_for.Tie as tie
 
 -- the definition by the outcomes of its tests
 says : (freq rate : Float) {a b d : Bool} → finite rate ≡ a → lt (ofBits binary64 0) rate ≡ b → finite (div binary64 freq rate) ≡ d

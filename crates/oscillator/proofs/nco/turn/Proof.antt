@@ -3,9 +3,9 @@ use mathlib.Core.Path.{_∙_}
 use mir.Syntax.{w64}
 use lib.Ieee.{ofBits}
 use Rattle.rounding.proofs.Lin.{back}
-use Rattle.phase.specs.Oscillator.{turnOf}
-use Rattle.phase.proofs.oscillator.turn.Statement.{statement}
-use Rattle.phase.proofs.oscillator.turn.Tie as tie
+use Rattle.oscillator.specs.Oscillator.{turnOf}
+use Rattle.oscillator.proofs.nco.turn.Statement.{statement}
+use Rattle.oscillator.proofs.nco.turn.Tie as tie
 
 floor-f64-requires : tie.Need-floor-f64-requires
 floor-f64-requires c κs = search needs

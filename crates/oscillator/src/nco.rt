@@ -1,6 +1,6 @@
 // The numerically controlled oscillator of kernels/mix.rs.
 ghost use mathlib.Core.Path.{_≡_};
-ghost use Rattle.phase.specs.Oscillator.{
+ghost use Rattle.oscillator.specs.Oscillator.{
   incrementOf,
   newBy,
   setBy,
