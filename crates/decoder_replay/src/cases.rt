@@ -15,6 +15,9 @@ use pll::pll_f32::NewF32;
 use pll::pll_f32::StereoPllF32;
 use pll::pll_q15::NewQ15;
 use pll::pll_q15::StereoPllQ15;
+ghost use mathlib.Core.Path.{_≡_};
+ghost use Prim.Native.Nat.{_≤_};
+ghost use lib.ListN.{length};
 
 // A construction in f32: the limit's pattern, or the refusal.
 fn new_f32(pilot: f64, natural: f64, level: f64, beta: f64, rate: f64) {
@@ -151,90 +154,88 @@ fn block_q15(
     done();
 }
 
-// The causes 9 to 11, and none.
-fn lengths_f32(table: &[f32]) {
-    let d = record_f32(0.5, 1.0);
-    let four = [0.0f32; 4];
-    let three = [0.0f32; 3];
+// A block of four samples whose pilot and outputs have these lengths.
+fn lengths_f32(
+    name: &[u8],
+    d: StereoPllF32,
+    table: &[f32],
+    pilot: usize,
+    sum: usize,
+    difference: usize,
+)
+    requires { ⌜ (pilot ≤ 4) × (sum ≤ 4) × (difference ≤ 4) ⌝ }
+{
+    let mpx = [0.0f32; 4];
+    let quiet = [0.0f32; 4];
     let mut s = [0.0f32; 4];
     let mut e = [0.0f32; 4];
-    let mut short = [0.0f32; 3];
-    block_f32(b"f32:", d, table, &four, &four, &mut s, &mut e);
-    block_f32(b"f32, table of 4:", d, &four, &four, &three, &mut s, &mut e);
     block_f32(
-        b"f32, pilot short:",
+        name,
         d,
         table,
-        &four,
-        &three,
-        &mut short,
-        &mut e,
-    );
-    block_f32(
-        b"f32, sum short:",
-        d,
-        table,
-        &four,
-        &four,
-        &mut short,
-        &mut e,
-    );
-    block_f32(
-        b"f32, difference short:",
-        d,
-        table,
-        &four,
-        &four,
-        &mut s,
-        &mut short,
+        &mpx,
+        &quiet[0..pilot],
+        &mut s[0..sum],
+        &mut e[0..difference],
     );
 }
 
-fn lengths_q15(table: &[i16]) {
-    let d = record_q15(131072);
-    let four = [0i16; 4];
-    let three = [0i16; 3];
+// A block of four samples whose pilot and outputs have these lengths.
+fn lengths_q15(
+    name: &[u8],
+    d: StereoPllQ15,
+    table: &[i16],
+    pilot: usize,
+    sum: usize,
+    difference: usize,
+)
+    requires { ⌜ (pilot ≤ 4) × (sum ≤ 4) × (difference ≤ 4) ⌝ }
+{
+    let mpx = [0i16; 4];
+    let quiet = [0i16; 4];
     let mut s = [0i16; 4];
     let mut e = [0i16; 4];
-    let mut short = [0i16; 3];
-    block_q15(b"Q15:", d, table, &four, &four, &mut s, &mut e);
     block_q15(
+        name,
+        d,
+        table,
+        &mpx,
+        &quiet[0..pilot],
+        &mut s[0..sum],
+        &mut e[0..difference],
+    );
+}
+
+// The causes 9 to 11, and none.
+fn causes_f32(table: &[f32])
+    requires { ⌜ length (now table) ≡ 4097 ⌝ }
+{
+    let d = record_f32(0.5, 1.0);
+    lengths_f32(b"f32:", d, table, 4, 4, 4);
+    lengths_f32(b"f32, table of 4:", d, &table[0..4], 3, 4, 4);
+    lengths_f32(b"f32, pilot short:", d, table, 3, 3, 4);
+    lengths_f32(b"f32, sum short:", d, table, 4, 3, 4);
+    lengths_f32(b"f32, difference short:", d, table, 4, 4, 3);
+}
+
+// The causes 0 and 9 to 11, and none.
+fn causes_q15(table: &[i16])
+    requires { ⌜ length (now table) ≡ 4097 ⌝ }
+{
+    let d = record_q15(131072);
+    lengths_q15(b"Q15:", d, table, 4, 4, 4);
+    lengths_q15(
         b"Q15, unfit, table of 4:",
         record_q15(-1),
-        &four,
-        &four,
-        &four,
-        &mut s,
-        &mut e,
+        &table[0..4],
+        4,
+        4,
+        4,
     );
-    block_q15(b"Q15, table of 4:", d, &four, &four, &three, &mut s, &mut e);
-    block_q15(
-        b"Q15, pilot short:",
-        d,
-        table,
-        &four,
-        &three,
-        &mut short,
-        &mut e,
-    );
-    block_q15(
-        b"Q15, sum short:",
-        d,
-        table,
-        &four,
-        &four,
-        &mut short,
-        &mut e,
-    );
-    block_q15(
-        b"Q15, difference short:",
-        d,
-        table,
-        &four,
-        &four,
-        &mut s,
-        &mut short,
-    );
+    lengths_q15(b"Q15, table of 4:", d, &table[0..4], 3, 4, 4);
+    lengths_q15(b"Q15, pilot short:", d, table, 3, 3, 4);
+    lengths_q15(b"Q15, sum short:", d, table, 4, 3, 4);
+    lengths_q15(b"Q15, difference short:", d, table, 4, 4, 3);
 }
 
 // One sample by both ways, with its outputs.
@@ -302,8 +303,8 @@ pub(crate) fn run() {
     let halves = [16384i16; 4097];
     constructions();
     more_constructions();
-    lengths_f32(&ones);
-    lengths_q15(&halves);
+    causes_f32(&ones);
+    causes_q15(&halves);
     samples_q15(&halves);
     at_the_top();
     odd_f32(&ones);

@@ -150,7 +150,23 @@ fn pilot(d: StereoPllF32, w: &[u64; 17], table: &[f32]) -> [f32; 80] {
     out
 }
 
-// A block of the lengths that the line has, plain or fast.
+// A block, plain or fast.
+fn either(
+    fast: bool,
+    d: StereoPllF32,
+    table: &[f32],
+    mpx: &[f32],
+    pilot: &[f32],
+    sum: &mut [f32],
+    difference: &mut [f32],
+) -> ReplyF32 {
+    if fast {
+        return decoder::fast_f32::block(d, table, mpx, pilot, sum, difference);
+    }
+    decoder::plain_f32::block(d, table, mpx, pilot, sum, difference)
+}
+
+// A block of the lengths that the line has.
 fn run(
     fast: bool,
     d: StereoPllF32,
@@ -168,17 +184,8 @@ fn run(
     let np = block_length(w[2] / 4294967296);
     let ns = block_length(w[2] / 281474976710656);
     let nd = block_length(w[3]);
-    if fast {
-        return decoder::fast_f32::block(
-            d,
-            &table[0..nt],
-            &mpx[0..nm],
-            &pilot[0..np],
-            &mut sum[0..ns],
-            &mut difference[0..nd],
-        );
-    }
-    decoder::plain_f32::block(
+    either(
+        fast,
         d,
         &table[0..nt],
         &mpx[0..nm],
@@ -189,15 +196,19 @@ fn run(
 }
 
 // The outputs hold 9 before the block.
-fn block(fast: bool, d: StereoPllF32, w: &[u64; 17]) -> TurnF32 {
-    let mut table = [0.0f32; 4098];
-    fill_f32(w[0], &mut table);
-    let mut mpx = [0.0f32; 80];
-    fill_f32(w[1], &mut mpx);
-    let p = pilot(d, w, &table);
+fn outputs(
+    fast: bool,
+    d: StereoPllF32,
+    w: &[u64; 17],
+    table: &[f32],
+    mpx: &[f32],
+    pilot: &[f32],
+) -> TurnF32
+    requires { ⌜ (length (now table) ≡ 4098) × (length (now mpx) ≡ 80) × (length (now pilot) ≡ 80) ⌝ }
+{
     let mut sum = [9.0f32; 80];
     let mut difference = [9.0f32; 80];
-    let reply = run(fast, d, w, &table, &mpx, &p, &mut sum, &mut difference);
+    let reply = run(fast, d, w, table, mpx, pilot, &mut sum, &mut difference);
     let a = reply.answer;
     left(
         words_c::words(a),
@@ -205,6 +216,25 @@ fn block(fast: bool, d: StereoPllF32, w: &[u64; 17]) -> TurnF32 {
         digest_f32(&difference),
         reply.decoder,
     )
+}
+
+fn cosines(spec: u64) -> [f32; 4098] {
+    let mut out = [0.0f32; 4098];
+    fill_f32(spec, &mut out);
+    out
+}
+
+fn samples(spec: u64) -> [f32; 80] {
+    let mut out = [0.0f32; 80];
+    fill_f32(spec, &mut out);
+    out
+}
+
+fn block(fast: bool, d: StereoPllF32, w: &[u64; 17]) -> TurnF32 {
+    let table = cosines(w[0]);
+    let mpx = samples(w[1]);
+    let p = pilot(d, w, &table);
+    outputs(fast, d, w, &table, &mpx, &p)
 }
 
 pub(crate) fn call(fast: bool, d: StereoPllF32, name: usize, w: &[u64; 17]) -> TurnF32 {

@@ -154,7 +154,23 @@ fn pilot(d: StereoPllQ15, w: &[u64; 17], table: &[i16]) -> [i16; 80] {
     out
 }
 
-// A block of the lengths that the line has, plain or fast.
+// A block, plain or fast.
+fn either(
+    fast: bool,
+    d: StereoPllQ15,
+    table: &[i16],
+    mpx: &[i16],
+    pilot: &[i16],
+    sum: &mut [i16],
+    difference: &mut [i16],
+) -> ReplyQ15 {
+    if fast {
+        return decoder::fast_q15::block(d, table, mpx, pilot, sum, difference);
+    }
+    decoder::plain_q15::block(d, table, mpx, pilot, sum, difference)
+}
+
+// A block of the lengths that the line has.
 fn run(
     fast: bool,
     d: StereoPllQ15,
@@ -172,17 +188,8 @@ fn run(
     let np = block_length(w[2] / 4294967296);
     let ns = block_length(w[2] / 281474976710656);
     let nd = block_length(w[3]);
-    if fast {
-        return decoder::fast_q15::block(
-            d,
-            &table[0..nt],
-            &mpx[0..nm],
-            &pilot[0..np],
-            &mut sum[0..ns],
-            &mut difference[0..nd],
-        );
-    }
-    decoder::plain_q15::block(
+    either(
+        fast,
         d,
         &table[0..nt],
         &mpx[0..nm],
@@ -193,15 +200,19 @@ fn run(
 }
 
 // The outputs hold 9 before the block.
-fn block(fast: bool, d: StereoPllQ15, w: &[u64; 17]) -> TurnQ15 {
-    let mut table = [0i16; 4098];
-    fill_q15(w[0], &mut table);
-    let mut mpx = [0i16; 80];
-    fill_q15(w[1], &mut mpx);
-    let p = pilot(d, w, &table);
+fn outputs(
+    fast: bool,
+    d: StereoPllQ15,
+    w: &[u64; 17],
+    table: &[i16],
+    mpx: &[i16],
+    pilot: &[i16],
+) -> TurnQ15
+    requires { ⌜ (length (now table) ≡ 4098) × (length (now mpx) ≡ 80) × (length (now pilot) ≡ 80) ⌝ }
+{
     let mut sum = [9i16; 80];
     let mut difference = [9i16; 80];
-    let reply = run(fast, d, w, &table, &mpx, &p, &mut sum, &mut difference);
+    let reply = run(fast, d, w, table, mpx, pilot, &mut sum, &mut difference);
     let a = reply.answer;
     left(
         words_c::words(a),
@@ -209,6 +220,25 @@ fn block(fast: bool, d: StereoPllQ15, w: &[u64; 17]) -> TurnQ15 {
         digest_q15(&difference),
         reply.decoder,
     )
+}
+
+fn cosines(spec: u64) -> [i16; 4098] {
+    let mut out = [0i16; 4098];
+    fill_q15(spec, &mut out);
+    out
+}
+
+fn samples(spec: u64) -> [i16; 80] {
+    let mut out = [0i16; 80];
+    fill_q15(spec, &mut out);
+    out
+}
+
+fn block(fast: bool, d: StereoPllQ15, w: &[u64; 17]) -> TurnQ15 {
+    let table = cosines(w[0]);
+    let mpx = samples(w[1]);
+    let p = pilot(d, w, &table);
+    outputs(fast, d, w, &table, &mpx, &p)
 }
 
 pub(crate) fn call(fast: bool, d: StereoPllQ15, name: usize, w: &[u64; 17]) -> TurnQ15 {
