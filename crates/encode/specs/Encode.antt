@@ -6,7 +6,7 @@ use lib.ListN.{length, getD}
 use lib.IntN.{pos, negsuc}
 use lib.Ieee.{Float, nan, fin, binary32, binary64, add, sub, mul, div, le}
 use Rattle.phase.specs.Lookup.{sineAt, cosF32}
-use Rattle.phase.specs.Oscillator.{goodRate, turnOf, phaseSet}
+use Rattle.oscillator.specs.Oscillator.{goodRate, turnOf, phaseSet}
 use Rattle.blocks.specs.Answer.{Said, firstOf, tableRule, inputRule, outputRule, kept}
 use Rattle.blocks.specs.Samples.{samples}
 use Rattle.floats.specs.Floats.{inRange}

@@ -1,5 +1,3 @@
-// Phases: the cosine lookup, the phase correction and the oscillator. A phase is a u32, one turn
-// being 2^32.
+// Phases: the cosine lookup and the phase correction. A phase is a u32, one turn being 2^32.
 pub mod correction;
 pub mod lookup;
-pub mod oscillator;

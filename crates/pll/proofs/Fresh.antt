@@ -14,7 +14,7 @@ use lib.Ieee.Fits.{down-pos}
 use Rattle.rounding.proofs.Lin.{up-neg, dn-neg, le-yes}
 use Rattle.rounding.proofs.Finite.{round-zero, eq-zero}
 use Rattle.floats.specs.Floats.{toFormat, inRange}
-use Rattle.phase.specs.Oscillator.{goodRate}
+use Rattle.oscillator.specs.Oscillator.{goodRate}
 use Rattle.pll.specs.State.{Pll}
 use Rattle.pll.specs.Fit.{withinZ, fits64, guardOf, fitQ15}
 use Rattle.pll.specs.Gains.{Gains, Built, made, refused, unless, following, nought, pi, root2, positive, narrows, allNarrow, gainsOf, commonOf, allHold, guarded, alive, freshQ15, buildQ15, newQ15Of}

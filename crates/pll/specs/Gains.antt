@@ -7,7 +7,7 @@ use lib.Ieee.Scale.{finite}
 use Rattle.numbers.specs.Integers.{modZ}
 use Rattle.floats.specs.Floats.{floorOf, absOf, toFormat, inRange}
 use Rattle.numbers.specs.Scaled.{scaledOf}
-use Rattle.phase.specs.Oscillator.{goodRate}
+use Rattle.oscillator.specs.Oscillator.{goodRate}
 use Rattle.pll.specs.State.{Pll}
 use Rattle.pll.specs.Fit.{fits64, guardOf}
 

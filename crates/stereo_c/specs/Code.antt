@@ -3,8 +3,8 @@ use Prim.Native.Nat.{ℕ, _+_, _^_}
 use mathlib.Core.List.{List}
 use lib.Ieee.{Float}
 use Rattle.words_c.specs.Words.{wordsOf}
-use Rattle.phase.specs.declared.oscillator.Increment.{Increment}
-use Rattle.phase.specs.declared.oscillator.Increment.the-variants as increment
+use Rattle.oscillator.specs.declared.nco.Increment.{Increment}
+use Rattle.oscillator.specs.declared.nco.Increment.the-variants as increment
 use Rattle.stereo.specs.Matrix.{Matrixed}
 use Rattle.encode.specs.Encode.{Encoded}
 use Rattle.encode.specs.declared.encode.StereoEncode.{StereoEncode}

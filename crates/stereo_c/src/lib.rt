@@ -7,13 +7,13 @@ use encode::encode::StereoEncode;
 use encode::rds::NewEncodeRds;
 use encode::rds::SetEncodeRds;
 use encode::rds::StereoEncodeRds;
-use phase::oscillator::Increment;
-use phase::oscillator::Nco;
+use oscillator::nco::Increment;
+use oscillator::nco::Nco;
 use words_c::words;
 ghost use mathlib.Core.Path.{_≡_};
 ghost use Rattle.phase.specs.Lookup.{cosF32, pairF32, cosQ15};
 ghost use Rattle.phase.specs.Correction.{correctionOf};
-ghost use Rattle.phase.specs.Oscillator.{incrementOf, advanceOf};
+ghost use Rattle.oscillator.specs.Oscillator.{incrementOf, advanceOf};
 ghost use Rattle.stereo.specs.Matrix.{matrixF32, matrixQ15};
 ghost use Rattle.stereo.specs.Verdict.{onAirOf};
 ghost use Rattle.encode.specs.Encode.{newEncodeOf, withRds, setPilotOf, setRdsOf};
@@ -79,7 +79,7 @@ pub extern "C" fn pescrondilu_correction_fast(f: f32) -> u32
 pub extern "C" fn pescrondilu_increment_for(freq: f64, rate: f64) -> u64
     ensures { λ r. ⌜ r ≡ incrementCode (incrementOf freq rate) ⌝ }
 {
-    match phase::oscillator::increment_for(freq, rate) {
+    match oscillator::nco::increment_for(freq, rate) {
         Increment::Turn(inc) => inc as u64,
         Increment::Refused(n) => 4294967296 + n as u64,
     }

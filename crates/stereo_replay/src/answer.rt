@@ -11,8 +11,8 @@ use encode::rds::NewEncodeRds;
 use encode::rds::SetEncodeRds;
 use encode::rds::StereoEncodeRds;
 use lines::words;
-use phase::oscillator::Increment;
-use phase::oscillator::Nco;
+use oscillator::nco::Increment;
+use oscillator::nco::Nco;
 
 // A refusal in the place of an increment is 2^32 and its number.
 fn refused(n: u32) -> u64 {
@@ -23,7 +23,7 @@ fn refused(n: u32) -> u64 {
 const TURNED_BACK: u64 = 18446744073709551615;
 
 fn increment_for(freq: f64, rate: f64) -> u64 {
-    match phase::oscillator::increment_for(freq, rate) {
+    match oscillator::nco::increment_for(freq, rate) {
         Increment::Turn(inc) => words::word_u32(inc),
         Increment::Refused(n) => refused(n),
     }

@@ -12,14 +12,14 @@ use encode::rds::SetEncodeRds;
 use encode::rds::StereoEncodeRds;
 use libc::STDOUT_FILENO;
 use lines::words::f32_of;
-use phase::oscillator::Increment;
-use phase::oscillator::Nco;
-use phase::oscillator::NewNco;
-use phase::oscillator::SetNco;
+use oscillator::nco::Increment;
+use oscillator::nco::Nco;
+use oscillator::nco::NewNco;
+use oscillator::nco::SetNco;
 
 fn increment(name: &[u8], freq: f64, rate: f64) {
     line(name);
-    match phase::oscillator::increment_for(freq, rate) {
+    match oscillator::nco::increment_for(freq, rate) {
         Increment::Turn(inc) => number(inc as u64),
         Increment::Refused(n) => refusal(n),
     }

@@ -4,7 +4,7 @@ use mathlib.Core.Path.{_≡_, refl}
 use mathlib.Core.Bool.{Bool, true, false, _&&_, cond}
 use lib.IntN.{pos}
 use lib.Ieee.{Float, fin, ofBits, binary64, div, le, lt}
-use Rattle.phase.specs.Oscillator.{goodRate, turnOf}
+use Rattle.oscillator.specs.Oscillator.{goodRate, turnOf}
 use Rattle.encode.specs.declared.encode.NewEncode.the-variants.{Made, Refused}
 use Rattle.floats.specs.Floats.{inRange}
 use Rattle.encode.specs.Encode.{goodLevel, newEncodeOf}
