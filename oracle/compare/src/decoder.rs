@@ -271,6 +271,94 @@ fn near_the_top() -> bool {
     part.report()
 }
 
+/// What the history rule compares: levels with `on` and `off`, and the integrator with its limit.
+trait Ruled: Compared<Value: PartialOrd> {
+    fn is_finite(p: Self::Sample) -> bool;
+    fn minus(x: Self::Value) -> Self::Value;
+    /// A table within -1 to 1.
+    fn cosines() -> Vec<Self::Sample>;
+}
+
+impl Ruled for f32 {
+    fn is_finite(p: f32) -> bool {
+        p.is_finite()
+    }
+
+    fn minus(x: f32) -> f32 {
+        -x
+    }
+
+    fn cosines() -> Vec<f32> {
+        (0..TABLE).map(|i| cosine(i) as f32).collect()
+    }
+}
+
+impl Ruled for Q15 {
+    fn is_finite(_: i16) -> bool {
+        true
+    }
+
+    fn minus(x: i64) -> i64 {
+        -x
+    }
+
+    fn cosines() -> Vec<i16> {
+        (0..TABLE).map(|i| (cosine(i) * 32767.0) as i16).collect()
+    }
+}
+
+fn cosine(i: usize) -> f64 {
+    (i as f64 / 4096.0 * std::f64::consts::TAU).cos()
+}
+
+/// Demand 3's rule: some level was at or above `on`, and none after it was below `off`.
+fn locked<V: PartialOrd>(levels: &[V], on: &V, off: &V) -> bool {
+    let last = levels.iter().rposition(|v| v >= on);
+    last.is_some_and(|i| !levels[i + 1..].iter().any(|v| v < off))
+}
+
+/// Our fast decoder in blocks of one sample, so that each sample's level is seen: the decision by
+/// the history rule, and the integrator within its limit.
+fn history<F: Ruled>(name: &'static str, count: u64) -> bool {
+    let mut r = Inputs::new(17);
+    let mut part = Part::new(name);
+    let table = F::cosines();
+    let mut made = 0;
+    while made < count {
+        let a = inputs::good_arguments(&mut r);
+        let mut record = Record::<F>::from(F::any_fields(&mut r));
+        if record.construct(a) > 0 {
+            continue;
+        }
+        made += 1;
+        let mut levels = Vec::new();
+        let waves = F::pilot(&mut r, 200, &record.fields());
+        for p in waves {
+            if r.below(100) == 0 {
+                record.call(Way::Fast, &Call::Reset);
+                levels.clear();
+            }
+            let b = Block {
+                table: table.clone(),
+                mpx: vec![p],
+                pilot: vec![p],
+                sum: vec![p],
+                difference: vec![p],
+            };
+            let got = record.call(Way::Fast, &Call::Block(b));
+            let f = record.fields();
+            if F::is_finite(p) {
+                levels.push(f.level);
+            }
+            part.stereo += got.reads[3];
+            let within = f.integ <= f.imax && f.integ >= F::minus(f.imax);
+            let expected = (locked(&levels, &f.on, &f.off), true);
+            part.same(expected, (f.stereo, within), || format!("{a:?}"));
+        }
+    }
+    part.report()
+}
+
 /// All parts; whether there was no difference.
 pub fn compare(count: u64) -> bool {
     constructions::<f32>("new_f32", 50 * count)
@@ -281,4 +369,6 @@ pub fn compare(count: u64) -> bool {
         & by_hand::<Q15>("by_hand_q15", count)
         & one_place()
         & near_the_top()
+        & history::<f32>("history_f32", count / 10)
+        & history::<Q15>("history_q15", count / 10)
 }

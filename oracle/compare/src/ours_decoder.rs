@@ -189,7 +189,7 @@ impl<F: Ours> Record<F> {
         )
     }
 
-    fn fields(&self) -> Fields<F::Value> {
+    pub fn fields(&self) -> Fields<F::Value> {
         let [kp, ki, imax, beta, on, off, integ, level] = self.values;
         Fields {
             kp,

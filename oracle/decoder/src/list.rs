@@ -285,7 +285,11 @@ impl List {
             },
             mpx: one(r, &[CALM, ANY]) | seed(r),
             lengths,
-            place: if r.below(3) == 0 { r.below(80) } else { NOWHERE },
+            place: if r.below(3) == 0 {
+                r.below(80)
+            } else {
+                NOWHERE
+            },
             odd: F::odd(r),
             pilot: match r.below(8) {
                 0..=3 => SINE | F::size(r, f),
