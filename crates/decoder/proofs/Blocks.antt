@@ -5,7 +5,8 @@ use mathlib.Core.List.{List}
 use lib.ListN.{length}
 use Rattle.blocks.specs.Answer.{Said, turned, accepts}
 use Rattle.pll.specs.State.{Pll}
-use Rattle.decoder.specs.Machine.{Arithmetic, Ran, lengthsSay, blockSays, blockOf}
+use Rattle.steps.specs.Arithmetic.{Arithmetic}
+use Rattle.decoder.specs.Machine.{Ran, lengthsSay, blockSays, blockOf}
 use Rattle.decoder.proofs.Loops.{turned-back, carried-out, lengths-equal}
 
 -- a test that was negated in the code

@@ -1,5 +1,4 @@
 pub mod Loops
-pub mod Scan
 pub mod Steps
 pub mod Blocks
 pub mod Level

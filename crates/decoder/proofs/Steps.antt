@@ -5,7 +5,8 @@ use mathlib.Core.Bool.{Bool, _&&_, cond}
 use mathlib.Core.List.{List}
 use Rattle.phase.specs.Lookup.{sineAt}
 use Rattle.pll.specs.State.{Pll}
-use Rattle.decoder.specs.Machine.{Arithmetic, decide, limited, nextOf, differenceOf}
+use Rattle.steps.specs.Arithmetic.{Arithmetic, decide, limited}
+use Rattle.decoder.specs.Machine.{nextOf, differenceOf}
 
 -- the numbers that a step works out for the pilot p in the state d
 pub record Parts {A : Type 0} (F : Arithmetic A) (t : List A) (d : Pll A) (p e level integ : A) (stereo : Bool) (phase : ℕ) : Type 0 where

@@ -4,55 +4,31 @@
 use crate::lengths::block_lengths;
 use crate::parts_f32::ReplyF32;
 use crate::parts_f32::StepF32;
-use crate::parts_f32::decided;
-use crate::parts_f32::demodulated;
-use crate::parts_f32::error_of;
-use crate::parts_f32::gathered;
-use crate::parts_f32::level_next;
-use crate::parts_f32::level_of;
-use crate::parts_f32::moved;
-use crate::parts_f32::stereo_of;
 use crate::parts_f32::whole;
-use crate::parts_f32::within;
 use blocks::answer::is_accepted;
 use phase::correction::correction_fast;
 use phase::lookup::cos_f32;
 use phase::lookup::interp_f32_pair;
 use phase::lookup::sine_at_twice;
 use pll::pll_f32::StereoPllF32;
+use steps::finite::scan;
+use steps::in_f32::decided;
+use steps::in_f32::demodulated;
+use steps::in_f32::error_of;
+use steps::in_f32::gathered;
+use steps::in_f32::level_next;
+use steps::in_f32::level_of;
+use steps::in_f32::stereo_of;
+use steps::in_f32::within;
+use steps::turn::moved;
 ghost use mathlib.Core.Path.{_≡_};
 ghost use mathlib.Core.Bool.{true};
 ghost use lib.ListN.{length};
 ghost use lib.Ieee.Scale.{finite};
 ghost use Rattle.blocks.specs.Answer.{says};
 ghost use Rattle.decoder.specs.Machine.{nextOf, differenceOf, blockOf, Ran};
-ghost use Rattle.decoder.specs.Formats.{f32, allFinite};
+ghost use Rattle.steps.specs.Formats.{f32, allFinite};
 ghost use Rattle.pll.specs.Records.{pllF32};
-
-// Whether x is finite, by its pattern with the sign bit masked off; a NaN has no pattern to look
-// at, and is told apart before.
-fn is_finite_pattern(x: f32) -> bool
-    ensures { λ r. ⌜ r ≡ finite x ⌝ }
-{
-    if x != x {
-        return false;
-    }
-    f32::to_bits(x) % 2147483648 < 2139095040
-}
-
-// Whether every sample of the pilot is finite.
-pub fn scan(pilot: &[f32]) -> bool
-    ensures { λ r. ⌜ r ≡ allFinite (now (pilot .entry)) ⌝ }
-{
-    let mut ok = true;
-    let mut i = 0usize;
-    while i < pilot.len() {
-        let f = is_finite_pattern(pilot[i]);
-        ok = ok & f;
-        i += 1;
-    }
-    ok
-}
 
 // One sample whose pilot may not be finite.
 fn step_checked(table: &[f32], d: StereoPllF32, x: f32, p: f32) -> StepF32

@@ -6,7 +6,6 @@ use crate::parts_q15::ReplyQ15;
 use crate::parts_q15::StepQ15;
 use crate::parts_q15::advanced;
 use crate::parts_q15::level_after;
-use crate::parts_q15::selected;
 use crate::parts_q15::whole;
 use blocks::answer::Answer;
 use blocks::answer::is_accepted;
@@ -15,6 +14,7 @@ use phase::lookup::sine_at;
 use phase::lookup::sine_at_twice;
 use pll::pll_q15::StereoPllQ15;
 use pll::pll_q15::is_fit;
+use steps::in_q15::selected;
 ghost use mathlib.Core.Path.{_≡_};
 ghost use mathlib.Core.Bool.{true};
 ghost use Prim.Native.Nat.{_≤_, _^_};
@@ -24,7 +24,7 @@ ghost use Rattle.numbers.specs.Integers.{sat16Of, roundShiftOf};
 ghost use Rattle.blocks.specs.Answer.{says};
 ghost use Rattle.decoder.specs.Machine.{nextOf, differenceOf, blockOf, Ran};
 ghost use Rattle.pll.specs.Fit.{levelFit, fitQ15};
-ghost use Rattle.decoder.specs.Formats.{q15, levelQ15};
+ghost use Rattle.steps.specs.Formats.{q15, levelQ15};
 ghost use Rattle.pll.specs.Records.{pllQ15};
 
 // The level after a sample.

@@ -1,22 +1,24 @@
-// The parts of a sample's steps that the Q15 loops share. Some ask for the bounds that a fit record
-// gives; no sum or product then passes an i64.
-use crate::parts_f32::moved;
+// What the Q15 loops share. Some parts ask for the bounds that a fit record gives; no sum or product
+// then passes an i64.
 use blocks::answer::Answer;
 use numbers::fixed::low32;
 use numbers::fixed::round_shift;
 use pll::pll_q15::StereoPllQ15;
+use steps::in_q15::decided;
+use steps::turn::moved;
 ghost use mathlib.Core.Path.{_≡_};
 ghost use lib.ListN.{length};
-ghost use mathlib.Core.Bool.{cond, true};
+ghost use mathlib.Core.Bool.{true};
 ghost use mathlib.Core.List.{List};
 ghost use Prim.Native.Nat.{_+_, _*_, _≤_, _<_, _^_};
-ghost use lib.IntN.{ℤ, pos, natAbs, _+ℤ_, _*ℤ_};
+ghost use lib.IntN.{ℤ, natAbs, _+ℤ_, _*ℤ_};
 ghost use lib.Signed.{nonNeg};
 ghost use lib.Dec.{T};
 ghost use Rattle.numbers.specs.Integers.{roundShiftOf};
-ghost use Rattle.decoder.specs.Machine.{decide, limited, errorOf, levelOf, nextOf};
+ghost use Rattle.steps.specs.Arithmetic.{limited};
+ghost use Rattle.decoder.specs.Machine.{errorOf, levelOf, nextOf};
 ghost use Rattle.pll.specs.Fit.{levelFit, fitQ15};
-ghost use Rattle.decoder.specs.Formats.{q15, levelQ15};
+ghost use Rattle.steps.specs.Formats.{q15, levelQ15};
 ghost use Rattle.pll.specs.Records.{pllQ15};
 
 // A decoder after a sample, and the sample's difference output.
@@ -39,18 +41,6 @@ pub(crate) fn whole(table: &[i16]) -> &[i16]
     &table[..4097]
 }
 
-pub(crate) fn decided(level: i64, on: i64, off: i64, was: bool) -> bool
-    ensures { λ r. ⌜ r ≡ decide q15 level on off was ⌝ }
-{
-    if level >= on {
-        true
-    } else if level < off {
-        false
-    } else {
-        was
-    }
-}
-
 // Within -imax..=imax; a negative imax is not fit, and -imax passes the largest i64 at the
 // smallest one.
 pub(crate) fn within(imax: i64, x: i64) -> i64
@@ -59,13 +49,6 @@ pub(crate) fn within(imax: i64, x: i64) -> i64
 {
     let y = if x > imax { imax } else { x };
     if y < -imax { -imax } else { y }
-}
-
-// The difference output: the demodulated sample, or silence.
-pub(crate) fn selected(on: bool, difference: i16) -> i16
-    ensures { λ r. ⌜ r ≡ cond on difference (pos 0) ⌝ }
-{
-    if on { difference } else { 0 }
 }
 
 // offset + gain * e, for an error of at most 2^30 in size.

@@ -2,25 +2,25 @@
 use crate::lengths::block_lengths;
 use crate::parts_f32::ReplyF32;
 use crate::parts_f32::StepF32;
-use crate::parts_f32::demodulated;
-use crate::parts_f32::error_of;
-use crate::parts_f32::gathered;
-use crate::parts_f32::level_of;
-use crate::parts_f32::moved;
-use crate::parts_f32::stereo_of;
 use crate::parts_f32::whole;
-use crate::parts_f32::within;
 use blocks::answer::is_accepted;
 use phase::correction::correction_plain;
 use phase::lookup::cos_f32;
 use phase::lookup::sine_at;
 use phase::lookup::sine_at_twice;
 use pll::pll_f32::StereoPllF32;
+use steps::in_f32::demodulated;
+use steps::in_f32::error_of;
+use steps::in_f32::gathered;
+use steps::in_f32::level_of;
+use steps::in_f32::stereo_of;
+use steps::in_f32::within;
+use steps::turn::moved;
 ghost use mathlib.Core.Path.{_≡_};
 ghost use lib.ListN.{length};
 ghost use Rattle.blocks.specs.Answer.{says};
 ghost use Rattle.decoder.specs.Machine.{nextOf, differenceOf, blockOf, Ran};
-ghost use Rattle.decoder.specs.Formats.{f32};
+ghost use Rattle.steps.specs.Formats.{f32};
 ghost use Rattle.pll.specs.Records.{pllF32};
 
 // One sample.

@@ -302,7 +302,7 @@ fn odd_f32(table: &[f32]) {
 fn scan(name: &[u8], x: f32) {
     let pilot = [1.0, -1.0, x, 0.0];
     label(name);
-    number(decoder::fast_f32::scan(&pilot) as u64);
+    number(steps::finite::scan(&pilot) as u64);
     done();
 }
 

@@ -9,8 +9,9 @@ use mir.Facts.{toZ-ofZ}
 use Rattle.rounding.proofs.Lin.{back}
 use Rattle.numbers.specs.Integers.{roundShiftOf, modZ}
 use Rattle.pll.specs.State.{Pll}
-use Rattle.decoder.specs.Machine.{decide, limited, errorOf, levelOf, nextOf}
-use Rattle.decoder.specs.Formats.{q15}
+use Rattle.steps.specs.Arithmetic.{decide, limited}
+use Rattle.decoder.specs.Machine.{errorOf, levelOf, nextOf}
+use Rattle.steps.specs.Formats.{q15}
 use Rattle.pll.specs.Records.{pllQ15}
 use Rattle.pll.proofs.Fit.{limit}
 use Rattle.decoder.proofs.Kept.{ki-room, kp-room}

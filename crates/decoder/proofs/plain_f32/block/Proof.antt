@@ -4,7 +4,7 @@ use mathlib.Core.Bool.{true}
 use lib.ListN.{length}
 use Rattle.blocks.specs.Answer.{says, accepts}
 use Rattle.blocks.proofs.Tests.{failed, passed}
-use Rattle.decoder.specs.Formats.{f32}
+use Rattle.steps.specs.Formats.{f32}
 use Rattle.pll.specs.Records.{pllF32}
 use Rattle.decoder.proofs.Loops.{turned-back, carried-out, lengths-equal}
 use Rattle.decoder.proofs.plain_f32.block.Statement.{statement}

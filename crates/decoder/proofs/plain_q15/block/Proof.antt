@@ -1,6 +1,6 @@
 use borrow.Author.Needs.{needs}
 use Rattle.blocks.specs.Answer.{says}
-use Rattle.decoder.specs.Formats.{q15}
+use Rattle.steps.specs.Formats.{q15}
 use Rattle.decoder.proofs.Blocks.{unfit, wrong-length, full-table, runs, ran}
 use Rattle.decoder.proofs.plain_q15.block.Statement.{statement}
 use Rattle.decoder.proofs.plain_q15.block.Tie as tie
