@@ -7,7 +7,7 @@ use lib.ListN.{length, getD}
 use Rattle.phase.specs.Lookup.{sineAt}
 use Rattle.blocks.specs.Answer.{Said, accepted, turned, firstOf, tableRule, inputRule, outputRule, kept}
 use Rattle.blocks.specs.Samples.{samples}
-use Rattle.pll.specs.State.{Pll}
+use Rattle.pll.specs.State.{Pll, movedTo}
 use Rattle.steps.specs.Arithmetic.{Arithmetic, decide, limited}
 
 module _ {A : Type 0} (F : Arithmetic A) where
@@ -36,20 +36,7 @@ module _ {A : Type 0} (F : Arithmetic A) where
   nextOf t d p =
       let e = errorOf t d p in
       let integ = integOf t d p in
-      record {
-        kp = d .kp;
-        ki = d .ki;
-        imax = d .imax;
-        beta = d .beta;
-        on = d .on;
-        off = d .off;
-        step0 = d .step0;
-        phase = (d .phase + d .step0 + F .correction (F .frequency (d .kp) e integ)) % 2 ^ 32;
-        integ = integ;
-        level = levelOf t d p;
-        stereo = stereoOf t d p;
-        enabled = d .enabled;
-      }
+      movedTo d ((d .phase + d .step0 + F .correction (F .frequency (d .kp) e integ)) % 2 ^ 32) integ (levelOf t d p) (stereoOf t d p)
 
   -- the state before sample i of a block, whose pilot is ps
   unfoldable pub stateAt : List A → List A → Pll A → ℕ → Pll A

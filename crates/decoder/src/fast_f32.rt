@@ -4,6 +4,7 @@
 use crate::lengths::block_lengths;
 use crate::parts_f32::ReplyF32;
 use crate::parts_f32::StepF32;
+use crate::parts_f32::advanced;
 use crate::parts_f32::whole;
 use blocks::answer::is_accepted;
 use phase::correction::correction_fast;
@@ -20,7 +21,6 @@ use steps::in_f32::level_next;
 use steps::in_f32::level_of;
 use steps::in_f32::stereo_of;
 use steps::in_f32::within;
-use steps::turn::moved;
 ghost use mathlib.Core.Path.{_≡_};
 ghost use mathlib.Core.Bool.{true};
 ghost use lib.ListN.{length};
@@ -43,20 +43,7 @@ fn step_checked(table: &[f32], d: StereoPllF32, x: f32, p: f32) -> StepF32
     let integ = within(d.imax, gathered(d.integ, d.ki, e));
     let correction = correction_fast(d.kp * e + integ);
     StepF32 {
-        next: StereoPllF32 {
-            kp: d.kp,
-            ki: d.ki,
-            imax: d.imax,
-            beta: d.beta,
-            on: d.on,
-            off: d.off,
-            step0: d.step0,
-            phase: moved(d.phase, d.step0, correction),
-            integ,
-            level,
-            stereo,
-            enabled: d.enabled,
-        },
+        next: advanced(d, correction, integ, level, stereo),
         difference,
     }
 }
@@ -75,20 +62,7 @@ fn step_clean(table: &[f32], d: StereoPllF32, x: f32, p: f32) -> StepF32
     let integ = within(d.imax, gathered(d.integ, d.ki, e));
     let correction = correction_fast(d.kp * e + integ);
     StepF32 {
-        next: StereoPllF32 {
-            kp: d.kp,
-            ki: d.ki,
-            imax: d.imax,
-            beta: d.beta,
-            on: d.on,
-            off: d.off,
-            step0: d.step0,
-            phase: moved(d.phase, d.step0, correction),
-            integ,
-            level,
-            stereo,
-            enabled: d.enabled,
-        },
+        next: advanced(d, correction, integ, level, stereo),
         difference,
     }
 }

@@ -1,13 +1,12 @@
 // The fast Q15 block (fallback/stereo.rs): the table sums in 32 bits, and the level's rounding
 // without the stop that a fit level never reaches. The correction's rounding stops at the largest
 // i64, as the plain one does.
-use crate::lengths::block_lengths;
+use crate::lengths::block_answer;
 use crate::parts_q15::ReplyQ15;
 use crate::parts_q15::StepQ15;
 use crate::parts_q15::advanced;
 use crate::parts_q15::level_after;
 use crate::parts_q15::whole;
-use blocks::answer::Answer;
 use blocks::answer::is_accepted;
 use phase::lookup::interp_q15;
 use phase::lookup::sine_at;
@@ -109,13 +108,8 @@ pub fn block(
 ) -> ReplyQ15
     ensures { λ r. ⌜ record { said = says (r .answer); sum = now (sum .exit); difference = now (difference .exit); pll = pllQ15 (r .decoder) } ≡ blockOf q15 (pllQ15 d) (now (table .entry)) (now (mpx .entry)) (now (pilot .entry)) (now (sum .entry)) (now (difference .entry)) ⌝ }
 {
-    if !is_fit(d) {
-        return ReplyQ15 {
-            answer: Answer::Unfit,
-            decoder: d,
-        };
-    }
-    let answer = block_lengths(
+    let answer = block_answer(
+        is_fit(d),
         table.len(),
         mpx.len(),
         pilot.len(),

@@ -1,8 +1,12 @@
 // What the f32 loops share.
 use blocks::answer::Answer;
 use pll::pll_f32::StereoPllF32;
+use steps::turn::moved;
 ghost use mathlib.Core.Path.{_≡_};
+ghost use Prim.Native.Nat.{_+_, _%_, _^_};
 ghost use lib.ListN.{length};
+ghost use Rattle.pll.specs.State.{movedTo};
+ghost use Rattle.pll.specs.Records.{pllF32};
 
 // A decoder after a sample, and the sample's difference output.
 pub struct StepF32 {
@@ -22,4 +26,21 @@ pub(crate) fn whole(table: &[f32]) -> &[f32]
     ensures { λ r. ⌜ now r ≡ now (table .entry) ⌝ }
 {
     &table[..4097]
+}
+
+// The decoder after a sample that has this correction, integrator, level and decision.
+pub(crate) fn advanced(
+    mut d: StereoPllF32,
+    correction: u32,
+    integ: f32,
+    level: f32,
+    stereo: bool,
+) -> StereoPllF32
+    ensures { λ r. ⌜ pllF32 r ≡ movedTo (pllF32 d) ((d .phase + d .step0 + correction) % 2 ^ 32) integ level stereo ⌝ }
+{
+    d.phase = moved(d.phase, d.step0, correction);
+    d.integ = integ;
+    d.level = level;
+    d.stereo = stereo;
+    d
 }

@@ -17,7 +17,7 @@ pub record Pll (A : Type 0) : Type 0 where
   pub stereo : Bool
   pub enabled : Bool
 
--- enable and disable set enabled; reset sets phase, integrator and level to 0 and stereo to false
+-- enable and disable set enabled
 abbrev pub enabledOf : {A : Type 0} → Bool → Pll A → Pll A
 enabledOf b d = record {
   kp = d .kp;
@@ -34,8 +34,9 @@ enabledOf b d = record {
   enabled = b;
 }
 
-abbrev pub resetOf : {A : Type 0} → A → Pll A → Pll A
-resetOf z d = record {
+-- the state with other values of the four fields that samples move
+abbrev pub movedTo : {A : Type 0} → Pll A → ℕ → A → A → Bool → Pll A
+movedTo d phase integ level stereo = record {
   kp = d .kp;
   ki = d .ki;
   imax = d .imax;
@@ -43,9 +44,13 @@ resetOf z d = record {
   on = d .on;
   off = d .off;
   step0 = d .step0;
-  phase = 0;
-  integ = z;
-  level = z;
-  stereo = false;
+  phase = phase;
+  integ = integ;
+  level = level;
+  stereo = stereo;
   enabled = d .enabled;
 }
+
+-- reset sets phase, integrator and level to 0 and stereo to false
+abbrev pub resetOf : {A : Type 0} → A → Pll A → Pll A
+resetOf z d = movedTo d 0 z z false

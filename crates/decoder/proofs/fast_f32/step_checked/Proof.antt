@@ -1,5 +1,5 @@
 use borrow.Author.Needs.{needs}
-use mathlib.Core.Path.{_≡_, _∙_}
+use mathlib.Core.Path.{_≡_, refl, _∙_}
 use Rattle.steps.specs.Formats.{f32}
 use Rattle.pll.specs.Records.{pllF32}
 use Rattle.decoder.proofs.Steps.{Parts, next-is, difference-is}
@@ -36,8 +36,8 @@ within-requires c κs = search needs
 correction-fast-requires : tie.Need-correction-fast-requires
 correction-fast-requires c κs = search needs
 
-moved-requires : tie.Need-moved-requires
-moved-requires c κs = search needs
+advanced-requires : tie.Need-advanced-requires
+advanced-requires c κs = search needs
 
 returns : tie.Need-returns
 returns c =
@@ -51,14 +51,14 @@ returns c =
     let c2 = e .before in
     let i = c2 .before .before in
     let a = i .before .before .args in
-    let parts : Parts f32 (a .table .now) (pllF32 (a .d)) (a .p) (e .error-of .result) (l .level-of .result) (w .within .result) (b .stereo-of .result) (c .moved .result) = record {
+    let parts : Parts f32 (a .table .now) (pllF32 (a .d)) (a .p) (e .error-of .result) (l .level-of .result) (w .within .result) (b .stereo-of .result) (k .correction-fast .result) = record {
       error = e .error-of .ensures ∙ rw (i .interp-f32-pair .ensures);
       lock = l .level-of .ensures ∙ rw (i .interp-f32-pair .ensures);
       decision = b .stereo-of .ensures;
       integrator = w .within .ensures ∙ rw (g .gathered .ensures);
-      turned = c .moved .ensures ∙ rw (k .correction-fast .ensures);
+      corrected = k .correction-fast .ensures;
     } in
-    (next-is f32 (a .table .now) (pllF32 (a .d)) (a .p) parts, difference-is f32 (a .table .now) (pllF32 (a .d)) (a .p) parts (a .x) (c2 .cos-f32 .ensures ∙ rw (c2 .before .sine-at-twice .ensures)) (m .demodulated .ensures))
+    (c .advanced .ensures ∙ next-is f32 (a .table .now) (pllF32 (a .d)) (a .p) parts refl, difference-is f32 (a .table .now) (pllF32 (a .d)) (a .p) parts (a .x) (c2 .cos-f32 .ensures ∙ rw (c2 .before .sine-at-twice .ensures)) (m .demodulated .ensures))
 
 pub step-checked-spec : {M : Type 1} → statement M
 step-checked-spec =
@@ -74,5 +74,5 @@ step-checked-spec =
     gathered-requires
     within-requires
     correction-fast-requires
-    moved-requires
+    advanced-requires
     returns)

@@ -1,5 +1,5 @@
 use borrow.Author.Needs.{needs}
-use mathlib.Core.Path.{_≡_, ap, _∙_}
+use mathlib.Core.Path.{_≡_, refl, ap, _∙_}
 use lib.Ieee.{binary32, mul}
 use Rattle.phase.specs.declared.lookup.Pair.{Pair}
 use Rattle.steps.specs.Formats.{f32}
@@ -35,8 +35,8 @@ within-requires c κs = search needs
 correction-fast-requires : tie.Need-correction-fast-requires
 correction-fast-requires c κs = search needs
 
-moved-requires : tie.Need-moved-requires
-moved-requires c κs = search needs
+advanced-requires : tie.Need-advanced-requires
+advanced-requires c κs = search needs
 
 returns : tie.Need-returns
 returns c =
@@ -50,14 +50,14 @@ returns c =
     let i = c2 .before .before in
     let s = i .before .before in
     let a = s .args in
-    let parts : Parts f32 (a .table .now) (pllF32 (a .d)) (a .p) (mul binary32 (a .p) (i .interp-f32-pair .result .c)) (l .level-next .result) (w .within .result) (b .decided .result) (c .moved .result) = record {
+    let parts : Parts f32 (a .table .now) (pllF32 (a .d)) (a .p) (mul binary32 (a .p) (i .interp-f32-pair .result .c)) (l .level-next .result) (w .within .result) (b .decided .result) (k .correction-fast .result) = record {
       error = rw (s .pre, i .interp-f32-pair .ensures);
       lock = l .level-next .ensures ∙ rw (s .pre, i .interp-f32-pair .ensures);
       decision = b .decided .ensures ∙ rw (s .pre);
       integrator = w .within .ensures ∙ rw (g .gathered .ensures);
-      turned = c .moved .ensures ∙ rw (k .correction-fast .ensures);
+      corrected = k .correction-fast .ensures;
     } in
-    (next-is f32 (a .table .now) (pllF32 (a .d)) (a .p) parts, difference-is f32 (a .table .now) (pllF32 (a .d)) (a .p) parts (a .x) (c2 .cos-f32 .ensures ∙ rw (c2 .before .sine-at-twice .ensures)) (m .demodulated .ensures))
+    (c .advanced .ensures ∙ next-is f32 (a .table .now) (pllF32 (a .d)) (a .p) parts refl, difference-is f32 (a .table .now) (pllF32 (a .d)) (a .p) parts (a .x) (c2 .cos-f32 .ensures ∙ rw (c2 .before .sine-at-twice .ensures)) (m .demodulated .ensures))
 
 pub step-clean-spec : {M : Type 1} → statement M
 step-clean-spec =
@@ -72,5 +72,5 @@ step-clean-spec =
     gathered-requires
     within-requires
     correction-fast-requires
-    moved-requires
+    advanced-requires
     returns)

@@ -1,20 +1,14 @@
 use borrow.Author.Needs.{needs}
-use mathlib.Core.Path.{_≡_, sym, ap, _∙_}
-use mathlib.Core.Bool.{true}
-use lib.ListN.{length}
-use Rattle.blocks.specs.Answer.{says, accepts}
-use Rattle.blocks.proofs.Tests.{failed, passed}
+use mathlib.Core.Path.{refl}
+use Rattle.blocks.specs.Answer.{says}
 use Rattle.steps.specs.Formats.{f32}
 use Rattle.pll.specs.Records.{pllF32}
-use Rattle.decoder.proofs.Loops.{turned-back, carried-out, lengths-equal}
+use Rattle.decoder.proofs.Blocks.{refused, full-table, runs, ran}
 use Rattle.decoder.proofs.plain_f32.block.Statement.{statement}
 use Rattle.decoder.proofs.plain_f32.block.Tie as tie
 
 abbrev start : tie.After-block-lengths → tie.Start
 start l = l .before .before .before .before .before .before
-
-taken : (c : tie.Else1) → accepts (says (c .before .before .block-lengths .result)) ≡ true
-taken c = passed (c .before .is-accepted .ensures) (c .if1 .left)
 
 block-lengths-requires : tie.Need-block-lengths-requires
 block-lengths-requires c κs = search needs
@@ -23,19 +17,21 @@ is-accepted-requires : tie.Need-is-accepted-requires
 is-accepted-requires c κs = search needs
 
 returns : tie.Need-returns
-returns c =
-    let l = c .before .before in
-    let a = start l .args in
-    turned-back f32 (a .table .now) (a .mpx .now) (a .pilot .now) (pllF32 (a .d)) (a .sum .now) (a .difference .now) _ (l .block-lengths .ensures) (failed (c .before .is-accepted .ensures) (c .if1 .taken))
-
-lengths : (e : tie.Else1) → let a = start (e .before .before) .args in (length (a .pilot .now) ≡ length (a .mpx .now)) × (length (a .sum .now) ≡ length (a .mpx .now)) × (length (a .difference .now) ≡ length (a .mpx .now)) × (length (a .table .now) ≡ 4097)
-lengths e = lengths-equal _ _ _ _ _ (sym (ap accepts (e .before .before .block-lengths .ensures)) ∙ taken e)
+returns c = let l = c .before .before in refused f32 _ _ _ _ _ _ refl (says (l .block-lengths .result)) (l .block-lengths .ensures) (c .before .is-accepted .ensures) (c .if1 .taken)
 
 whole-requires : tie.Need-whole-requires
-whole-requires c κs = lengths c .3
+whole-requires c κs =
+    let l = c .before .before in
+    let a = start l .args in
+    full-table f32 (a .table .now) (a .mpx .now) (a .pilot .now) (a .sum .now) (a .difference .now) (pllF32 (a .d)) refl (says (l .block-lengths .result)) (l .block-lengths .ensures) (c .before .is-accepted .ensures) (c .if1 .left)
 
 run-requires : tie.Need-run-requires
-run-requires c κs = let k = lengths (c .before .before .before) in (k .0, k .1, k .2)
+run-requires c κs =
+    let e = c .before .before .before in
+    let l = e .before .before in
+    let a = start l .args in
+    let k = runs f32 (a .table .now) (a .mpx .now) (a .pilot .now) (a .sum .now) (a .difference .now) (pllF32 (a .d)) refl (says (l .block-lengths .result)) (l .block-lengths .ensures) (e .before .is-accepted .ensures) (e .if1 .left) in
+    (k .0, k .1, k .2)
 
 same-length : tie.Need-same-length
 same-length c = search needs
@@ -49,8 +45,7 @@ returns-2 c =
     let w = r .before .before .before in
     let e = w .before in
     let l = e .before .before in
-    let a = start l .args in
-    carried-out f32 (a .table .now) (a .mpx .now) (a .pilot .now) (pllF32 (a .d)) (a .sum .now) (a .difference .now) _ (l .block-lengths .ensures) (taken e) (rw (w .whole .ensures) at (r .run .ensures))
+    ran f32 _ _ _ _ _ _ refl (says (l .block-lengths .result)) (l .block-lengths .ensures) (e .before .is-accepted .ensures) (e .if1 .left) (rw (w .whole .ensures) at (r .run .ensures))
 
 pub block-spec : {M : Type 1} → statement M
 block-spec =

@@ -1,5 +1,5 @@
 use borrow.Author.Needs.{needs}
-use mathlib.Core.Path.{_≡_, _∙_}
+use mathlib.Core.Path.{_≡_, refl, _∙_}
 use Rattle.steps.specs.Formats.{f32}
 use Rattle.pll.specs.Records.{pllF32}
 use Rattle.decoder.proofs.Steps.{Parts, next-is, difference-is}
@@ -42,8 +42,8 @@ within-requires c κs = search needs
 correction-plain-requires : tie.Need-correction-plain-requires
 correction-plain-requires c κs = search needs
 
-moved-requires : tie.Need-moved-requires
-moved-requires c κs = search needs
+advanced-requires : tie.Need-advanced-requires
+advanced-requires c κs = search needs
 
 returns : tie.Need-returns
 returns c =
@@ -58,14 +58,14 @@ returns c =
     let c2 = c3 .before .before in
     let c1 = c2 .before .before in
     let a = c1 .before .before .args in
-    let parts : Parts f32 (a .table .now) (pllF32 (a .d)) (a .p) (e .error-of .result) (l .level-of .result) (w .within .result) (b .stereo-of .result) (c .moved .result) = record {
+    let parts : Parts f32 (a .table .now) (pllF32 (a .d)) (a .p) (e .error-of .result) (l .level-of .result) (w .within .result) (b .stereo-of .result) (k .correction-plain .result) = record {
       error = e .error-of .ensures ∙ rw (c1 .cos-f32 .ensures);
       lock = l .level-of .ensures ∙ rw (c2 .cos-f322 .ensures, c2 .before .sine-at .ensures);
       decision = b .stereo-of .ensures;
       integrator = w .within .ensures ∙ rw (g .gathered .ensures);
-      turned = c .moved .ensures ∙ rw (k .correction-plain .ensures);
+      corrected = k .correction-plain .ensures;
     } in
-    (next-is f32 (a .table .now) (pllF32 (a .d)) (a .p) parts, difference-is f32 (a .table .now) (pllF32 (a .d)) (a .p) parts (a .x) (c3 .cos-f323 .ensures ∙ rw (c3 .before .sine-at-twice .ensures)) (m .demodulated .ensures))
+    (c .advanced .ensures ∙ next-is f32 (a .table .now) (pllF32 (a .d)) (a .p) parts refl, difference-is f32 (a .table .now) (pllF32 (a .d)) (a .p) parts (a .x) (c3 .cos-f323 .ensures ∙ rw (c3 .before .sine-at-twice .ensures)) (m .demodulated .ensures))
 
 pub step-spec : {M : Type 1} → statement M
 step-spec =
@@ -83,5 +83,5 @@ step-spec =
     gathered-requires
     within-requires
     correction-plain-requires
-    moved-requires
+    advanced-requires
     returns)
