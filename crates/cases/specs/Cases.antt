@@ -9,7 +9,7 @@ use lib.Ieee.{Float, nan, inf, fin}
 use Rattle.phase.specs.Lookup.{betweenQ15}
 use Rattle.phase.specs.Correction.{correctionOf}
 use Rattle.stereo.specs.Matrix.{leftQ15, rightQ15}
-use Rattle.encode.specs.Encode.{multiplexOf}
+use Rattle.multiplex.specs.Multiplex.{multiplexOf}
 use Rattle.pll.specs.State.{Pll}
 use Rattle.decoder.specs.Machine.{nextOf, differenceOf}
 use Rattle.steps.specs.Formats.{q15}

@@ -1,35 +1,10 @@
-// The multiplex encoder with RDS on the subcarrier at three times the pilot's phase.
+// The record of the multiplex encoder with RDS: construction, set calls and read-outs.
 use crate::encode::NewEncode;
 use crate::encode::SetEncode;
 use crate::encode::StereoEncode;
 use crate::encode::good_level;
-use crate::encode::multiplex;
-use crate::encode::run;
-use crate::encode::whole;
-use blocks::answer::Answer;
-use blocks::answer::is_accepted;
-use blocks::answer::table_rule;
-use blocks::answer::then_input;
-use blocks::answer::then_output;
-use phase::lookup::cos_f32;
-use phase::lookup::sine_at_thrice;
 ghost use mathlib.Core.Path.{_≡_};
-ghost use lib.ListN.{length, getD};
-ghost use lib.Ieee.{nan, binary32, add, mul};
-ghost use Rattle.blocks.specs.Answer.{says};
-ghost use Rattle.blocks.specs.Samples.{samples};
-ghost use Rattle.phase.specs.Lookup.{sineAt, cosF32};
-ghost use Rattle.encode.specs.Encode.{
-  newEncodeOf,
-  withRds,
-  setPilotOf,
-  inRds,
-  setRdsOf,
-  rdsAt,
-  multiplexRdsOf,
-  phaseAt,
-  encodeRdsOf,
-};
+ghost use Rattle.encode.specs.Encode.{newEncodeOf, withRds, setPilotOf, inRds, setRdsOf, rdsAt};
 
 // The stereo part, and the level of RDS.
 pub struct StereoEncodeRds {
@@ -47,50 +22,6 @@ pub enum NewEncodeRds {
 pub enum SetEncodeRds {
     Done(StereoEncodeRds),
     Refused(u32, StereoEncodeRds),
-}
-
-// What a block answers, and the encoder after it.
-pub struct EncodeRdsReply {
-    pub answer: Answer,
-    pub encoder: StereoEncodeRds,
-}
-
-// One multiplex sample with RDS, which is added last.
-pub fn multiplex_rds(
-    table: &[f32],
-    main: f32,
-    pilot: f32,
-    level: f32,
-    p: u32,
-    left: f32,
-    right: f32,
-    b: f32,
-) -> f32
-    ensures { λ r. ⌜ r ≡ multiplexRdsOf (now (table .entry)) main pilot level p left right b ⌝ }
-{
-    let m = multiplex(table, main, pilot, p, left, right);
-    let s3 = cos_f32(table, sine_at_thrice(p));
-    m + (level * b) * s3
-}
-
-// RDS is added to each sample.
-fn add_rds(e: StereoEncodeRds, table: &[f32], rds: &[f32], output: &mut [f32])
-    requires { ⌜ length (now output) ≡ length (now rds) ⌝ }
-    ensures { λ r. ⌜ now (output .exit) ≡ samples (length (now (rds .entry))) (λ i. add binary32 (getD (now (output .entry)) i nan) (mul binary32 (mul binary32 (e .rds) (getD (now (rds .entry)) i nan)) (cosF32 (now (table .entry)) (sineAt 3 (phaseAt (e .enc) i))))) ⌝ }
-{
-    let enc = e.enc;
-    let level = e.rds;
-    let mut p = enc.nco.phase;
-    let inc = enc.nco.inc;
-    let mut i = 0usize;
-    while i < rds.len() {
-        let x = output[i];
-        let b = rds[i];
-        let s3 = cos_f32(table, sine_at_thrice(p));
-        output[i] = x + (level * b) * s3;
-        p = std::num::wrapping_add_u32(p, inc);
-        i += 1;
-    }
 }
 
 impl StereoEncodeRds {
@@ -177,35 +108,5 @@ impl StereoEncodeRds {
         ensures { λ r. ⌜ r ≡ rdsAt self 0 ⌝ }
     {
         self.set_phase(0)
-    }
-
-    // A block of left, right and the RDS baseband to the multiplex.
-    pub fn encode(
-        self,
-        table: &[f32],
-        left: &[f32],
-        right: &[f32],
-        rds: &[f32],
-        output: &mut [f32],
-    ) -> EncodeRdsReply
-        ensures { λ r. ⌜ record { said = says (r .answer); output = now (output .exit); encoder = r .encoder } ≡ encodeRdsOf self (now (table .entry)) (now (left .entry)) (now (right .entry)) (now (rds .entry)) (now (output .entry)) ⌝ }
-    {
-        let n = left.len();
-        let a = then_input(table_rule(table.len()), n, right.len());
-        let b = then_input(a, n, rds.len());
-        let answer = then_output(b, n, output.len());
-        if !is_accepted(answer) {
-            return EncodeRdsReply {
-                answer,
-                encoder: self,
-            };
-        }
-        let enc = self.enc;
-        let p = run(enc, table, left, right, output);
-        add_rds(self, whole(table), rds, output);
-        EncodeRdsReply {
-            answer,
-            encoder: self.set_phase(p),
-        }
     }
 }

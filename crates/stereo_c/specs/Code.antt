@@ -6,7 +6,6 @@ use Rattle.words_c.specs.Words.{wordsOf}
 use Rattle.oscillator.specs.declared.nco.Increment.{Increment}
 use Rattle.oscillator.specs.declared.nco.Increment.the-variants as increment
 use Rattle.stereo.specs.Matrix.{Matrixed}
-use Rattle.encode.specs.Encode.{Encoded}
 use Rattle.encode.specs.declared.encode.StereoEncode.{StereoEncode}
 use Rattle.encode.specs.declared.encode.NewEncode.{NewEncode}
 use Rattle.encode.specs.declared.encode.NewEncode.the-variants as new
@@ -17,6 +16,7 @@ use Rattle.encode.specs.declared.rds.NewEncodeRds.{NewEncodeRds}
 use Rattle.encode.specs.declared.rds.NewEncodeRds.the-variants as newRds
 use Rattle.encode.specs.declared.rds.SetEncodeRds.{SetEncodeRds}
 use Rattle.encode.specs.declared.rds.SetEncodeRds.the-variants as setRds
+use Rattle.multiplex.specs.Multiplex.{Encoded}
 
 -- ---- an increment is itself; a refusal is 2^32 and its number, which no increment reaches
 abbrev pub refusedAs : ℕ → ℕ

@@ -17,7 +17,7 @@ ghost use Rattle.oscillator.specs.Oscillator.{incrementOf, advanceOf};
 ghost use Rattle.stereo.specs.Matrix.{matrixF32, matrixQ15};
 ghost use Rattle.stereo.specs.Verdict.{onAirOf};
 ghost use Rattle.encode.specs.Encode.{newEncodeOf, withRds, setPilotOf, setRdsOf};
-ghost use Rattle.encode.specs.Encode.{encodeOf, encodeRdsOf};
+ghost use Rattle.multiplex.specs.Multiplex.{encodeOf, encodeRdsOf};
 ghost use Rattle.stereo_c.specs.Code.{incrementCode, newCode, newRdsCode};
 ghost use Rattle.stereo_c.specs.Code.{setPilotInC, setRdsInC};
 ghost use Rattle.stereo_c.specs.Code.{matrixedInC, encodedInC, encodedRdsInC};
@@ -235,7 +235,7 @@ pub extern "C" fn pescrondilu_encode(
     ensures { λ _. ⌜ record { words = now (said .exit); output = now (output .exit); phase = now (next .exit) } ≡ encodedInC (encodeOf (record { nco = record { phase = phase; inc = inc }; main = main; pilot = pilot }) (now (table .entry)) (now (left .entry)) (now (right .entry)) (now (output .entry))) ⌝ }
 {
     let e = encoder(phase, inc, main, pilot);
-    let reply = e.encode(table, left, right, output);
+    let reply = multiplex::stereo::encode(e, table, left, right, output);
     let answer = reply.answer;
     *said = words(answer);
     *next = reply.encoder.nco.phase;
@@ -260,7 +260,7 @@ pub extern "C" fn pescrondilu_encode_rds(
 {
     let enc = encoder(phase, inc, main, pilot);
     let e = StereoEncodeRds { enc, rds: level };
-    let reply = e.encode(table, left, right, rds, output);
+    let reply = multiplex::rds::encode(e, table, left, right, rds, output);
     let answer = reply.answer;
     *said = words(answer);
     *next = reply.encoder.enc.nco.phase;

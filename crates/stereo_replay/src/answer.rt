@@ -139,7 +139,7 @@ fn encode(cos: &[f32], seed: u64, k: u64, e: StereoEncode) -> u64 {
     let left = samples::block_f32(seed);
     let right = samples::block_f32(samples::second(seed));
     let mut output = [0.0f32; 16];
-    let reply = e.encode(cos, &left, &right, &mut output);
+    let reply = multiplex::stereo::encode(e, cos, &left, &right, &mut output);
     let a = reply.answer;
     accepted(
         a,
@@ -156,7 +156,7 @@ fn encode_rds(cos: &[f32], seed: u64, k: u64, e: StereoEncodeRds) -> u64 {
     let right = samples::block_f32(samples::second(seed));
     let rds = samples::block_f32(samples::third(seed));
     let mut output = [0.0f32; 16];
-    let reply = e.encode(cos, &left, &right, &rds, &mut output);
+    let reply = multiplex::rds::encode(e, cos, &left, &right, &rds, &mut output);
     let a = reply.answer;
     accepted(
         a,

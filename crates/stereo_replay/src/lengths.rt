@@ -43,7 +43,7 @@ fn matrix_q15(name: &[u8], sum: &[i16], difference: &[i16], left: &mut [i16], ri
 // Both encoders, on a left slice of four samples; the next phase of each follows.
 fn plain(table: &[f32], right: &[f32], out: &mut [f32]) {
     let left = [0.5f32; 4];
-    let reply = encoder().encode(table, &left, right, out);
+    let reply = multiplex::stereo::encode(encoder(), table, &left, right, out);
     let a = reply.answer;
     said(a);
     number(reply.encoder.nco.phase as u64);
@@ -53,7 +53,7 @@ fn with_rds(table: &[f32], right: &[f32], rds: &[f32], out: &mut [f32]) {
     let left = [0.5f32; 4];
     let enc = encoder();
     let e = StereoEncodeRds { enc, rds: 0.125 };
-    let reply = e.encode(table, &left, right, rds, out);
+    let reply = multiplex::rds::encode(e, table, &left, right, rds, out);
     let a = reply.answer;
     said(a);
     number(reply.encoder.enc.nco.phase as u64);
