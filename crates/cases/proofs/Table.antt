@@ -1,6 +1,6 @@
 -- Document 01's table holds: each row is worked out. Assumes nothing.
 use mathlib.Core.Path.{refl}
-use lib.Ieee.{ofBits, round, add, sub, mul, neg, toSigned}
+use lib.Ieee.{round, add, sub, mul, neg, toSigned}
 use Rattle.rounding.specs.Cut.{restOf, cutBy}
 use Rattle.numbers.specs.Integers.{sat16Of, roundShiftOf}
 use Rattle.floats.specs.Floats.{wholeOf}

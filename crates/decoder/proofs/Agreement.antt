@@ -1,6 +1,6 @@
 -- A list of calls over the functions' own contracts, over the format: what they allow is what the machine answers. Assumes nothing.
 use Prim.Native.Nat.{ℕ}
-use mathlib.Core.Path.{_≡_, refl, sym, ap, _∙_}
+use mathlib.Core.Path.{_≡_, refl, ap, _∙_}
 use mathlib.Core.Bool.{true, false}
 use mathlib.Core.List.{List, [], _∷_, map}
 use contract.Lifetimes.{Lfts}

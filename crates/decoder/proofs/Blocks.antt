@@ -1,5 +1,5 @@
 -- The ways out of a decoder's block, over the format: b is whether the record is fit, s the answer, and a what the code's test of s says. Assumes nothing.
-use mathlib.Core.Path.{_≡_, refl, _∙_}
+use mathlib.Core.Path.{_≡_, refl}
 use mathlib.Core.Bool.{Bool, true, false, false≢true, not, cond}
 use mathlib.Core.List.{List}
 use lib.ListN.{length}

@@ -2,8 +2,8 @@
 -- `F.Reads.Post` is what the contract of F says of a call, as Rattle reads it; `F.Met.met` is the theorem that F's code meets it. proofs/Agreement.antt says what a list of calls may leave.
 use Prim.Native.Nat.{ℕ}
 use mathlib.Core.Path.{_≡_, refl, sym, ap, _∙_}
-use mathlib.Core.Bool.{Bool, true, false, _&&_}
-use mathlib.Core.List.{List, [], _∷_, map}
+use mathlib.Core.Bool.{true, false, _&&_}
+use mathlib.Core.List.{List, [], map}
 use native.Mathlib.Omega.{arith}
 use contract.Lifetimes.{Lfts}
 use denote.Ref.{RefT}

@@ -1,14 +1,14 @@
 -- The history rule: the decision is that of the levels since the start or the last reset, each taken in turn, and it is stereo exactly when the rule says so. Over the format. Assumes nothing.
 use Prim.Native.Nat.{ℕ, zero, suc}
-use mathlib.Core.Path.{_≡_, refl, sym, ap, _∙_, subst}
+use mathlib.Core.Path.{_≡_, refl, sym, ap, _∙_}
 use mathlib.Core.Logic.{_⊎_, inl, inr}
-use mathlib.Core.Bool.{Bool, true, false, cond, true≢false, false≢true}
+use mathlib.Core.Bool.{Bool, true, false, cond, false≢true}
 use mathlib.Core.List.{List, [], _∷_, _++_, append-nil}
 use lib.ListN.{length, getD}
 use Rattle.blocks.specs.Answer.{accepts}
-use Rattle.pll.specs.State.{Pll, enabledOf, resetOf}
+use Rattle.pll.specs.State.{Pll}
 use Rattle.steps.specs.Arithmetic.{Arithmetic, decide}
-use Rattle.decoder.specs.Machine.{stereoOf, levelOf, nextOf, stateAt, blockSays, blockOf}
+use Rattle.decoder.specs.Machine.{stereoOf, levelOf, nextOf, stateAt, blockOf}
 use Rattle.decoder.specs.Calls.{Call, block, enable, disable, reset, callOf, final, levelsIn, levelsAfter, history, NoneUnder, Locked}
 
 module _ {A : Type 0} (F : Arithmetic A) (on off : A) where

@@ -1,16 +1,16 @@
 -- The f32 integrator stays within its limit over every list of calls whose accepted blocks have tables within -1..1. Assumes nothing.
-use Prim.Native.Nat.{ℕ, zero, suc, _+_, _*_, _/_, _%_, _^_, _≤_, _<_}
+use Prim.Native.Nat.{ℕ, zero, suc, _+_, _*_, _/_, _%_, _≤_, _<_}
 use mathlib.Core.Path.{_≡_, refl, sym, ap, _∙_, subst}
-use mathlib.Core.Bool.{Bool, true, false, not, _&&_, _||_, cond, true≢false, false≢true}
+use mathlib.Core.Bool.{Bool, true, false, not, _&&_, _||_, cond, true≢false}
 use mathlib.Core.List.{List, [], _∷_}
 use native.Mathlib.Omega.{arith}
 use native.Mathlib.Nat.{le-trans, le-of-eq, le-of-lt, mul-one, zero-mul, not-suc-le-zero, le-of-suc-le-suc}
 use borrow.Author.Tests.{ltb-true, not-true}
-use lib.Dec.{T, ltb, eqb, ltb→lt, eqb→eq, lit<, lit≤}
+use lib.Dec.{T, ltb, eqb, ltb→lt, eqb→eq, lit<}
 use lib.Arith.{le→nltb}
 use lib.ListN.{length, getD}
 use lib.IntN.{pos}
-use lib.Ieee.{Float, nan, inf, fin, binary32, up, down, round, add, mul, sub, neg, lt, le, eq, isNan}
+use lib.Ieee.{Float, nan, inf, fin, binary32, up, down, add, mul, sub, neg, lt, le, eq, isNan}
 use lib.Ieee.Scale.{finite}
 use Rattle.rounding.proofs.Bound.{Within, within-finite, round-within, lookup-within, le-of}
 use Rattle.rounding.proofs.Finite.{eq-zero}
@@ -21,10 +21,10 @@ use Rattle.phase.specs.Lookup.{cosF32, fracF32}
 use Rattle.blocks.specs.Answer.{accepts}
 use Rattle.pll.specs.State.{Pll, enabledOf, resetOf}
 use Rattle.steps.specs.Arithmetic.{limited}
-use Rattle.decoder.specs.Machine.{errorOf, integOf, nextOf, stateAt, blockOf}
+use Rattle.decoder.specs.Machine.{errorOf, nextOf, stateAt, blockOf}
 use Rattle.steps.specs.Formats.{f32, gatherF32}
 use Rattle.pll.specs.Gains.{Gains, Built, made, refused, following, nought, narrows, allNarrow, commonOf, freshF32, newF32Of}
-use Rattle.decoder.specs.Calls.{Call, block, enable, disable, reset, callOf, final, unitTable, UnitTables}
+use Rattle.decoder.specs.Calls.{Call, block, enable, disable, reset, final, unitTable, UnitTables}
 use Rattle.pll.proofs.Ranges.{and-out}
 use Rattle.pll.proofs.Scaled.{plus, round-plus}
 use Rattle.pll.proofs.Fresh.{Sound, sound, all-narrow, made-same}

@@ -1,6 +1,6 @@
 -- The Q15 record stays fit over every list of calls, and so the integrator within its limit. Assumes nothing.
 use Prim.Native.Nat.{ℕ, zero, suc}
-use mathlib.Core.Path.{_≡_, refl, ap, _∙_, subst, sym}
+use mathlib.Core.Path.{_≡_, refl}
 use mathlib.Core.Bool.{Bool, true, false, cond}
 use mathlib.Core.List.{List, [], _∷_}
 use lib.Dec.{lit<}
@@ -10,11 +10,11 @@ use mir.Syntax.{w16}
 use mir.Val.{SFits}
 use Rattle.blocks.specs.Answer.{accepts}
 use Rattle.pll.specs.State.{Pll, enabledOf, resetOf}
-use Rattle.decoder.specs.Machine.{nextOf, stateAt, blockOf}
+use Rattle.decoder.specs.Machine.{stateAt, blockOf}
 use Rattle.pll.specs.Fit.{fitQ15}
 use Rattle.steps.specs.Formats.{q15}
-use Rattle.decoder.specs.Calls.{Call, block, enable, disable, reset, callOf, final, Samples16, Pilots16}
-use Rattle.pll.proofs.Fit.{Fit, fit-in, fitted}
+use Rattle.decoder.specs.Calls.{Call, block, enable, disable, reset, final, Samples16, Pilots16}
+use Rattle.pll.proofs.Fit.{fit-in, fitted}
 use Rattle.decoder.proofs.Kept.{fit-next}
 use Rattle.pll.proofs.Fresh.{origin-within}
 

@@ -1,7 +1,7 @@
 -- A decoder's loop and block, over the format: what a turn, the end, a refusal and an accepted block have to show. Assumes nothing.
 use Prim.Native.Nat.{ℕ, zero, suc, _+_, _≤_, _<_}
-use mathlib.Core.Path.{_≡_, refl, sym, ap, _∙_}
-use mathlib.Core.Bool.{Bool, true, false}
+use mathlib.Core.Path.{_≡_, refl, ap, _∙_}
+use mathlib.Core.Bool.{true, false}
 use mathlib.Core.List.{List, [], _∷_}
 use native.Mathlib.Nat.{not-suc-le-zero, le-of-suc-le-suc}
 use native.Mathlib.Numerals.{add-one}
@@ -12,7 +12,7 @@ use Rattle.blocks.proofs.Samples.{Filled, filled-start, filled-next, filled-end
 use Rattle.blocks.proofs.Lengths.{both, length-is}
 use Rattle.pll.specs.State.{Pll}
 use Rattle.steps.specs.Arithmetic.{Arithmetic}
-use Rattle.decoder.specs.Machine.{nextOf, differenceOf, stateAt, Ran, Blocked, lengthsSay, blockSays, blockOf}
+use Rattle.decoder.specs.Machine.{nextOf, differenceOf, stateAt, Ran, lengthsSay, blockSays, blockOf}
 
 -- an element that is there does not turn on what stands for one that is not
 pub any-default : {A : Type 0} (l : List A) (i : ℕ) (a b : A) → i < length l → getD l i a ≡ getD l i b

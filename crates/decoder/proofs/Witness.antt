@@ -1,6 +1,6 @@
 -- The claim of Demand.antt is not empty: construction does make decoders, and the contracts allow the machine's own replies over every list of calls. Assumes nothing.
 use Prim.Native.Nat.{ℕ}
-use mathlib.Core.Path.{_≡_, refl, sym, ap, _∙_}
+use mathlib.Core.Path.{_≡_, refl, sym, _∙_}
 use mathlib.Core.Bool.{Bool, true, false, cond}
 use mathlib.Core.List.{List, [], _∷_}
 use lib.Dec.{eqb}
@@ -19,7 +19,6 @@ use Rattle.floats.specs.Floats.{wholeOf, toFormat}
 use Rattle.numbers.specs.Scaled.{scaledOf}
 use Rattle.steps.specs.Formats.{f32, q15}
 use Rattle.pll.specs.Gains.{Gains, made, gainsOf, commonOf, freshF32, freshQ15, buildQ15, newF32Of, newQ15Of}
-use Rattle.pll.specs.Records.{pllF32, pllQ15}
 use Rattle.decoder.specs.Calls.{Call, block, enable, disable, reset}
 use Rattle.pll.specs.declared.pll_f32.StereoPllF32.{StereoPllF32}
 use Rattle.pll.specs.declared.pll_q15.StereoPllQ15.{StereoPllQ15}

@@ -9,7 +9,7 @@ use lib.Ieee.{Float, fin}
 use mir.Syntax.{w16}
 use mir.Val.{SFits}
 use Rattle.floats.specs.Floats.{inRange}
-use Rattle.blocks.specs.Answer.{Said, accepted, accepts}
+use Rattle.blocks.specs.Answer.{accepted, accepts}
 use Rattle.pll.specs.State.{Pll, enabledOf, resetOf}
 use Rattle.steps.specs.Arithmetic.{Arithmetic}
 use Rattle.decoder.specs.Machine.{stateAt, Blocked, blockOf}

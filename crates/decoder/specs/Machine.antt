@@ -11,11 +11,12 @@ use Rattle.pll.specs.State.{Pll, movedTo}
 use Rattle.steps.specs.Arithmetic.{Arithmetic, decide, limited}
 
 module _ {A : Type 0} (F : Arithmetic A) where
-  -- 2: p times c where the pilot takes part, else 0
+  -- 1: c is the table at the phase, s at `sineAt 1` of it, s2 at `sineAt 2`; each stands where it is used
+  -- 2: e is p times c where the pilot takes part, else 0
   abbrev pub errorOf : List A → Pll A → A → A
   errorOf t d p = cond (F .usable p) (F .times p (F .lookup t (d .phase))) (F .nought)
 
-  -- 3: skipped where it does not
+  -- 3: the level, with q = p times s; skipped where the pilot takes no part
   abbrev pub levelOf : List A → Pll A → A → A
   levelOf t d p = cond (F .usable p) (F .levelNext (d .beta) (d .level) (F .times p (F .lookup t (sineAt 1 (d .phase))))) (d .level)
 
@@ -31,7 +32,7 @@ module _ {A : Type 0} (F : Arithmetic A) where
   abbrev pub integOf : List A → Pll A → A → A
   integOf t d p = limited F (d .imax) (F .gather (d .integ) (d .ki) (errorOf t d p))
 
-  -- 7: the state after the sample
+  -- 7: the phase, and the state after the sample
   unfoldable pub nextOf : List A → Pll A → A → Pll A
   nextOf t d p =
       let e = errorOf t d p in

@@ -1,5 +1,5 @@
 -- A fit Q15 record: the tests one by one, and the room that they leave for a gain's product. Assumes nothing.
-use Prim.Native.Nat.{ℕ, _*_, _+_, _^_, _<_}
+use Prim.Native.Nat.{_*_, _+_, _^_, _<_}
 use mathlib.Core.Path.{_≡_}
 use mathlib.Core.Bool.{true, false≢true}
 use lib.Dec.{T}

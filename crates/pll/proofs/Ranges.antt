@@ -1,15 +1,15 @@
 -- Tests of a range on whole numbers, as facts that `omega` reads, and back. Assumes nothing.
 use Prim.Native.Nat.{ℕ, _+_, _*_, _^_, _≤_, _<_}
 use mathlib.Core.Path.{_≡_, refl, ap, _∙_}
-use mathlib.Core.Bool.{Bool, true, false, _&&_, cond, false≢true}
+use mathlib.Core.Bool.{Bool, true, false, _&&_, false≢true}
 use native.Mathlib.Omega.{arith}
 use lib.Dec.{T}
 use lib.IntN.{ℤ, pos, negsuc, negℤ, natAbs, _-ℤ_, +ℤ-idl}
-use lib.Signed.{ltZ, leZ, nonNeg}
+use lib.Signed.{leZ, nonNeg}
 use mir.Syntax.{w64}
 use mir.Val.{SFits, toZ, ofZ}
 use mir.Facts.{toZ-ofZ}
-use Rattle.rounding.proofs.Lin.{up, dn, sub-law', up-neg, dn-neg, abs-in, fit-in, le-yes, le-yes-in, lt-no}
+use Rattle.rounding.proofs.Lin.{up, dn, sub-law', up-neg, dn-neg, abs-in, fit-in, le-yes, le-yes-in}
 use Rattle.pll.specs.Fit.{withinZ, fits64, guardOf}
 
 -- both tests held

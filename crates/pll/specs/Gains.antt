@@ -1,8 +1,8 @@
 -- Construction: the causes 1 to 8 in order, the gains and the fresh state. Sources: document 01, "Calls turned back", "The decoder record"; kernels/stereo.rs (`StereoPllState::new`) for formulas and the order of operations, "as there". Definitions only.
 use Prim.Native.Nat.{ℕ, zero, suc, _^_}
-use mathlib.Core.Bool.{Bool, true, false, not, _&&_, _||_, cond}
+use mathlib.Core.Bool.{Bool, true, false, not, _&&_, cond}
 use lib.IntN.{ℤ, pos, negsuc}
-use lib.Ieee.{Float, fin, Format, binary32, binary64, ofBits, add, mul, div, lt, le, eq}
+use lib.Ieee.{Float, fin, binary32, binary64, ofBits, add, mul, div, lt, le, eq}
 use lib.Ieee.Scale.{finite}
 use Rattle.numbers.specs.Integers.{modZ}
 use Rattle.floats.specs.Floats.{floorOf, absOf, toFormat, inRange}

@@ -1,5 +1,4 @@
 -- The program's records as the machine's states, field by field, and the program's answers. Definitions only.
-use Prim.Native.Nat.{ℕ}
 use lib.IntN.{ℤ}
 use lib.Ieee.{Float}
 use Rattle.pll.specs.State.{Pll}

@@ -1,7 +1,6 @@
 use borrow.Author.Needs.{needs}
-use mathlib.Core.Path.{_≡_, refl, ap, _∙_}
+use mathlib.Core.Path.{refl, _∙_}
 use lib.Ieee.{binary32, mul}
-use Rattle.phase.specs.declared.lookup.Pair.{Pair}
 use Rattle.steps.specs.Formats.{f32}
 use Rattle.pll.specs.Records.{pllF32}
 use Rattle.decoder.proofs.Steps.{Parts, next-is, difference-is}

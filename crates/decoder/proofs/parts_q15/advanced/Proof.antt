@@ -1,16 +1,11 @@
 use borrow.Author.Needs.{needs}
-use Prim.Native.Nat.{ℕ, _+_, _%_, _^_}
 use mathlib.Core.Path.{_≡_, _∙_}
-use mathlib.Core.Bool.{Bool}
-use mathlib.Core.List.{List}
 use lib.IntN.{ℤ, _+ℤ_, _*ℤ_, +ℤ-comm}
 use mir.Syntax.{w64}
 use mir.Facts.{toZ-ofZ}
 use Rattle.rounding.proofs.Lin.{back}
-use Rattle.numbers.specs.Integers.{roundShiftOf, modZ}
 use Rattle.pll.specs.State.{Pll}
-use Rattle.steps.specs.Arithmetic.{decide, limited}
-use Rattle.decoder.specs.Machine.{errorOf, levelOf, nextOf}
+use Rattle.steps.specs.Arithmetic.{limited}
 use Rattle.steps.specs.Formats.{q15}
 use Rattle.pll.specs.Records.{pllQ15}
 use Rattle.pll.proofs.Fit.{limit}

@@ -1,5 +1,5 @@
 use borrow.Author.Needs.{needs}
-use mathlib.Core.Path.{_≡_, refl, _∙_}
+use mathlib.Core.Path.{refl, _∙_}
 use Rattle.steps.specs.Formats.{f32}
 use Rattle.pll.specs.Records.{pllF32}
 use Rattle.decoder.proofs.Steps.{Parts, next-is, difference-is}

@@ -1,5 +1,5 @@
 use borrow.Author.Needs.{needs}
-use mathlib.Core.Path.{_≡_, ap, _∙_}
+use mathlib.Core.Path.{ap, _∙_}
 use Rattle.multiplex.specs.Multiplex.{phaseAt}
 use Rattle.multiplex.proofs.Passes.{multiplexed}
 use Rattle.multiplex.proofs.stereo.run.Statement.{statement}

@@ -1,12 +1,12 @@
 -- `good1` to `good6` are the tests that were passed on the way, as the definition has them. Assumes nothing.
 use borrow.Author.Needs.{needs}
-use mathlib.Core.Path.{_≡_, refl, sym, ap, _∙_}
-use mathlib.Core.Bool.{Bool, true, false, not, _&&_}
+use mathlib.Core.Path.{_≡_, sym, _∙_}
+use mathlib.Core.Bool.{Bool, true, false, _&&_}
 use borrow.Author.Tests.{not-true, not-false}
 use lib.IntN.{pos}
-use lib.Ieee.{Float, fin, binary64, ofBits, div, lt, le}
+use lib.Ieee.{fin, binary64, ofBits, div, lt, le}
 use Rattle.floats.specs.Floats.{inRange}
-use Rattle.pll.specs.Gains.{nought, positive, allNarrow, commonOf, gainsOf}
+use Rattle.pll.specs.Gains.{nought, positive, allNarrow, commonOf}
 use Rattle.pll.specs.Records.{gains}
 use Rattle.pll.proofs.gains.common.Statement.{statement}
 use Rattle.pll.proofs.gains.common.Tie as tie
