@@ -193,6 +193,24 @@ pub fn f64_to_i64(x: f64) -> i64
     -9223372036854775808
 }
 
+// The greatest whole number that is not above x, stopping at the ends of an i64; a NaN gives 0.
+pub fn floor_to_i64(x: f64) -> i64
+    ensures { λ r. ⌜ r ≡ Ieee.toSigned 63 (floorOf x) ⌝ }
+{
+    if x != x {
+        return 0;
+    }
+    let b = f64::to_bits(x);
+    // no digit stands below 1
+    if b % 9223372036854775808 / 4503599627370496 >= 1075 {
+        return f64_to_i64(x);
+    }
+    if b >= 9223372036854775808 {
+        return -(whole_size(Rule::Downward, true, b) as i64);
+    }
+    whole_size(Rule::Downward, false, b) as i64
+}
+
 pub fn is_finite_f32(x: f32) -> bool
     ensures { λ r. ⌜ r ≡ finite x ⌝ }
 {

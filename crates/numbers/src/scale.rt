@@ -7,7 +7,7 @@ ghost use Rattle.numbers.specs.Scaled.{scaledOf, q15FromOf, saysQ14, q14
 pub fn floor_scaled(x: f64, scale: f64) -> i64
     ensures { λ r. ⌜ r ≡ scaledOf x scale ⌝ }
 {
-    floats::bits::f64_to_i64(floats::bits::floor_f64(x * scale + 0.5))
+    floats::bits::floor_to_i64(x * scale + 0.5)
 }
 
 // x as a Q15 number, limited; a NaN gives 0.
