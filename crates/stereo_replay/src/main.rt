@@ -9,7 +9,7 @@ mod cases;
 mod lengths;
 mod line;
 mod names;
-mod samples;
+mod seeds;
 mod tally;
 mod write;
 
@@ -31,9 +31,9 @@ fn replay(fd: i32, cos: &[f32], cos_q15: &[i16]) -> lines::tally::Tally {
 // Replays the opened list, reports, and goes on to the other cases.
 fn run(fd: i32) {
     let mut cos = [0.0f32; 4097];
-    samples::fill_f32(samples::TABLE_F32, &mut cos);
+    samples::fill_f32(seeds::TABLE_F32, &mut cos);
     let mut cos_q15 = [0i16; 4097];
-    samples::fill_q15(samples::TABLE_Q15, &mut cos_q15);
+    samples::fill_q15(seeds::TABLE_Q15, &mut cos_q15);
     let t = replay(fd, &cos, &cos_q15);
     lines::tally::report(t, &names::NAMES);
     cases::run();
