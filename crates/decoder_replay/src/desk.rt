@@ -1,16 +1,19 @@
-// The decoders that the list's calls go to, a plain and a fast one of each format.
+// The count of the lines, and the decoders that the list's calls go to, a plain and a fast one of
+// each format.
+use crate::session_f32::PairF32;
+use crate::session_q15::PairQ15;
+use lines::tally::Tally;
 use pll::pll_f32::StereoPllF32;
 use pll::pll_q15::StereoPllQ15;
 
 pub struct Desk {
-    pub plain_f32: StereoPllF32,
-    pub fast_f32: StereoPllF32,
-    pub plain_q15: StereoPllQ15,
-    pub fast_q15: StereoPllQ15,
+    pub tally: Tally,
+    pub float: PairF32,
+    pub fixed: PairQ15,
 }
 
-fn none_f32() -> StereoPllF32 {
-    StereoPllF32 {
+fn none_f32() -> PairF32 {
+    let d = StereoPllF32 {
         kp: 0.0,
         ki: 0.0,
         imax: 0.0,
@@ -23,11 +26,16 @@ fn none_f32() -> StereoPllF32 {
         level: 0.0,
         stereo: false,
         enabled: false,
+    };
+    PairF32 {
+        plain: d,
+        fast: d,
+        agree: false,
     }
 }
 
-fn none_q15() -> StereoPllQ15 {
-    StereoPllQ15 {
+fn none_q15() -> PairQ15 {
+    let d = StereoPllQ15 {
         kp: 0,
         ki: 0,
         imax: 0,
@@ -40,15 +48,19 @@ fn none_q15() -> StereoPllQ15 {
         level: 0,
         stereo: false,
         enabled: false,
+    };
+    PairQ15 {
+        plain: d,
+        fast: d,
+        agree: false,
     }
 }
 
 // Before the first line.
 pub(crate) fn empty() -> Desk {
     Desk {
-        plain_f32: none_f32(),
-        fast_f32: none_f32(),
-        plain_q15: none_q15(),
-        fast_q15: none_q15(),
+        tally: lines::tally::fresh(),
+        float: none_f32(),
+        fixed: none_q15(),
     }
 }

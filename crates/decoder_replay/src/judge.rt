@@ -2,98 +2,68 @@
 use crate::desk::Desk;
 use crate::line::read;
 use crate::names;
-use crate::words12::same;
 use lines::tally::Tally;
 
-pub struct Turn {
-    pub tally: Tally,
-    pub desk: Desk,
-}
-
-// One count more, of a call whose two answers are these.
-fn counted(
-    t: Tally,
-    line: &[u8; 306],
-    name: usize,
-    w: &[u64; 17],
-    plain: &[u64; 12],
-    fast: &[u64; 12],
-) -> Tally {
-    if same(plain, w) & same(fast, w) {
+// One count more, of a call that both answered or not.
+fn counted(t: Tally, line: &[u8; 306], name: usize, agree: bool) -> Tally {
+    if agree {
         return lines::tally::agree(t, name);
     }
     lines::tally::differ(t, line, 0)
 }
 
-fn judge_f32(t: Tally, desk: Desk, line: &[u8; 306], name: usize, w: &[u64; 17]) -> Turn {
-    let plain = crate::session_f32::call(false, desk.plain_f32, name, w);
-    let fast = crate::session_f32::call(true, desk.fast_f32, name, w);
-    let a = plain.words;
-    let b = fast.words;
-    let tally = counted(t, line, name, w, &a, &b);
-    let p = plain.next;
-    let q = fast.next;
-    let other = desk.plain_q15;
-    let another = desk.fast_q15;
-    let next = Desk {
-        plain_f32: p,
-        fast_f32: q,
-        plain_q15: other,
-        fast_q15: another,
-    };
-    Turn { tally, desk: next }
+// The desk with another count.
+fn at(desk: Desk, tally: Tally) -> Desk {
+    let float = desk.float;
+    let fixed = desk.fixed;
+    Desk {
+        tally,
+        float,
+        fixed,
+    }
 }
 
-fn judge_q15(t: Tally, desk: Desk, line: &[u8; 306], name: usize, w: &[u64; 17]) -> Turn {
-    let plain = crate::session_q15::call(false, desk.plain_q15, name, w);
-    let fast = crate::session_q15::call(true, desk.fast_q15, name, w);
-    let a = plain.words;
-    let b = fast.words;
-    let tally = counted(t, line, name, w, &a, &b);
-    let p = plain.next;
-    let q = fast.next;
-    let other = desk.plain_f32;
-    let another = desk.fast_f32;
-    let next = Desk {
-        plain_f32: other,
-        fast_f32: another,
-        plain_q15: p,
-        fast_q15: q,
-    };
-    Turn { tally, desk: next }
+fn called(desk: Desk, line: &[u8; 306], name: usize, w: &[u64; 17]) -> Desk {
+    let t = desk.tally;
+    let old_float = desk.float;
+    let old_fixed = desk.fixed;
+    if name < names::NEW_Q15 {
+        let float = crate::session_f32::both(old_float, name, w);
+        return Desk {
+            tally: counted(t, line, name, float.agree),
+            float,
+            fixed: old_fixed,
+        };
+    }
+    let fixed = crate::session_q15::both(old_fixed, name, w);
+    Desk {
+        tally: counted(t, line, name, fixed.agree),
+        float: old_float,
+        fixed,
+    }
 }
 
-fn judge(t: Tally, desk: Desk, line: &[u8; 306]) -> Turn {
+fn judge(desk: Desk, line: &[u8; 306]) -> Desk {
     let name = lines::line::find(line, &names::NAMES);
     let found = read(line);
     let w = found.w;
     if (name >= names::COUNT) | !found.good {
-        return Turn {
-            tally: lines::tally::refuse(t, line),
-            desk,
-        };
+        let t = desk.tally;
+        return at(desk, lines::tally::refuse(t, line));
     }
-    if name < names::NEW_Q15 {
-        return judge_f32(t, desk, line, name, &w);
-    }
-    judge_q15(t, desk, line, name, &w)
+    called(desk, line, name, &w)
 }
 
 // Reads a line and judges it. A line that the file cuts short is malformed.
-pub(crate) fn next(fd: i32, t: Tally, desk: Desk) -> Turn {
+pub(crate) fn next(fd: i32, desk: Desk) -> Desk {
     let mut line = [b' '; 306];
     let n = io::read_full(fd, &mut line);
     if n == 306 {
-        return judge(t, desk, &line);
+        return judge(desk, &line);
     }
+    let mut t = desk.tally;
     if n > 0 {
-        return Turn {
-            tally: lines::tally::end(lines::tally::refuse(t, &line)),
-            desk,
-        };
+        t = lines::tally::refuse(t, &line);
     }
-    Turn {
-        tally: lines::tally::end(t),
-        desk,
-    }
+    at(desk, lines::tally::end(t))
 }

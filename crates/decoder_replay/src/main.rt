@@ -1,35 +1,31 @@
 // Replays the list of the original's answers, data/decoder.txt, through the decoder, plain and
-// fast, writes how many lines of each call agree, and then what document 01's other cases give.
-// oracle/README.md says what a line holds and how the list was made.
+// fast, and writes how many lines of each call agree. oracle/README.md says what a line holds and
+// how the list was made.
 use libc::STDOUT_FILENO;
 
-mod cases;
 mod desk;
 mod judge;
+mod lengths;
 mod line;
 mod names;
-mod samples;
 mod session_f32;
 mod session_q15;
-mod show;
 mod words12;
 
 // A proved loop has to end, and nothing says that a file does: so the loop counts its turns down,
 // from a number that no run uses up.
 fn replay(fd: i32) -> lines::tally::Tally {
-    let mut t = lines::tally::fresh();
     let mut desk = desk::empty();
     let mut turns = u64::MAX;
     while turns > 0 {
-        let turn = judge::next(fd, t, desk);
-        t = turn.tally;
+        desk = judge::next(fd, desk);
+        let t = desk.tally;
         if t.ended {
             return t;
         }
-        desk = turn.desk;
         turns -= 1;
     }
-    t
+    desk.tally
 }
 
 fn main() {
@@ -43,5 +39,4 @@ fn main() {
     let t = replay(fd);
     libc::close(fd);
     lines::tally::report(t, &names::NAMES);
-    cases::run();
 }

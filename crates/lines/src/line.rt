@@ -71,13 +71,6 @@ fn starts(line: &[u8], name: &[u8]) -> bool
     true
 }
 
-// Whether a line begins with a name.
-pub fn begins(line: &[u8], name: &[u8; 16]) -> bool
-    ensures { λ r. ⌜ r ≡ startsWith (now (line .entry)) (now (name .entry)) ⌝ }
-{
-    starts(line, name)
-}
-
 // The number of the name with which a line begins, of names in 16 columns each, or how many names
 // there are where it begins with none.
 pub fn find(line: &[u8], names: &[u8]) -> usize

@@ -111,15 +111,6 @@ fn write_count(name: &[u8], n: u64) {
     io::write_all(STDOUT_FILENO, b"\n");
 }
 
-// Writes how many lines of one function agreed, and answers it.
-pub fn report_one(t: Tally, k: usize, name: &[u8; 16]) -> u64
-    ensures { λ r. ⌜ r ≡ agreedAt t k ⌝ }
-{
-    let n = agreed(t, k);
-    write_count(name, n);
-    n
-}
-
 // Writes the sums, and answers whether no line differed and none was malformed.
 pub fn report_all(t: Tally) -> bool
     ensures { λ r. ⌜ r ≡ flawless t ⌝ }

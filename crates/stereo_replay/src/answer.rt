@@ -1,7 +1,7 @@
 // What our functions answer, as a word.
 use crate::line::Case;
 use crate::names;
-use crate::samples;
+use crate::seeds;
 use blocks::answer::Answer;
 use blocks::answer::is_accepted;
 use encode::encode::NewEncode;
@@ -117,8 +117,8 @@ fn either(k: u64, left: u64, right: u64) -> u64 {
 }
 
 fn matrix_f32(seed: u64, k: u64) -> u64 {
-    let sum = samples::block_f32(seed);
-    let difference = samples::block_f32(samples::second(seed));
+    let sum = seeds::block_f32(seed);
+    let difference = seeds::block_f32(seeds::second(seed));
     let mut left = [0.0f32; 16];
     let mut right = [0.0f32; 16];
     let a = stereo::matrix::matrix_f32(&sum, &difference, &mut left, &mut right);
@@ -126,8 +126,8 @@ fn matrix_f32(seed: u64, k: u64) -> u64 {
 }
 
 fn matrix_q15(seed: u64, k: u64) -> u64 {
-    let sum = samples::block_q15(seed);
-    let difference = samples::block_q15(samples::second(seed));
+    let sum = seeds::block_q15(seed);
+    let difference = seeds::block_q15(seeds::second(seed));
     let mut left = [0i16; 16];
     let mut right = [0i16; 16];
     let a = stereo::matrix::matrix_q15(&sum, &difference, &mut left, &mut right);
@@ -136,8 +136,8 @@ fn matrix_q15(seed: u64, k: u64) -> u64 {
 
 // Of a block of 16 samples: the output at k below 16, then the next phase.
 fn encode(cos: &[f32], seed: u64, k: u64, e: StereoEncode) -> u64 {
-    let left = samples::block_f32(seed);
-    let right = samples::block_f32(samples::second(seed));
+    let left = seeds::block_f32(seed);
+    let right = seeds::block_f32(seeds::second(seed));
     let mut output = [0.0f32; 16];
     let reply = multiplex::stereo::encode(e, cos, &left, &right, &mut output);
     let a = reply.answer;
@@ -152,9 +152,9 @@ fn encode(cos: &[f32], seed: u64, k: u64, e: StereoEncode) -> u64 {
 }
 
 fn encode_rds(cos: &[f32], seed: u64, k: u64, e: StereoEncodeRds) -> u64 {
-    let left = samples::block_f32(seed);
-    let right = samples::block_f32(samples::second(seed));
-    let rds = samples::block_f32(samples::third(seed));
+    let left = seeds::block_f32(seed);
+    let right = seeds::block_f32(seeds::second(seed));
+    let rds = seeds::block_f32(seeds::third(seed));
     let mut output = [0.0f32; 16];
     let reply = multiplex::rds::encode(e, cos, &left, &right, &rds, &mut output);
     let a = reply.answer;

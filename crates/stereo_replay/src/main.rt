@@ -1,17 +1,13 @@
 // Replays the list of the original's answers, data/stereo.txt, through lookup, correction,
-// oscillator, matrix and encoders, writes how many lines of each function agree, and then what
-// document 01's other cases give. oracle/README.md says what a line holds and how the list was
-// made.
+// oscillator, matrix and encoders, and writes how many lines of each function agree.
+// oracle/README.md says what a line holds and how the list was made.
 use libc::STDOUT_FILENO;
 
 mod answer;
-mod cases;
-mod lengths;
 mod line;
 mod names;
-mod samples;
+mod seeds;
 mod tally;
-mod write;
 
 // A proved loop has to end, and nothing says that a file does: so the loop counts its turns down,
 // from a number that no run uses up.
@@ -28,16 +24,14 @@ fn replay(fd: i32, cos: &[f32], cos_q15: &[i16]) -> lines::tally::Tally {
     t
 }
 
-// Replays the opened list, reports, and goes on to the other cases.
+// Replays the opened list and reports.
 fn run(fd: i32) {
     let mut cos = [0.0f32; 4097];
-    samples::fill_f32(samples::TABLE_F32, &mut cos);
+    samples::fill_f32(seeds::TABLE_F32, &mut cos);
     let mut cos_q15 = [0i16; 4097];
-    samples::fill_q15(samples::TABLE_Q15, &mut cos_q15);
+    samples::fill_q15(seeds::TABLE_Q15, &mut cos_q15);
     let t = replay(fd, &cos, &cos_q15);
     lines::tally::report(t, &names::NAMES);
-    cases::run();
-    lengths::run(&cos);
 }
 
 fn main() {

@@ -1,5 +1,5 @@
-//! Tables and samples from a word, by the rules that crates/decoder_replay uses too: above 32 bits
-//! the kind, below them the seed or the value.
+//! Tables and samples from a word, by the rules that crates/samples has too: above 32 bits the kind,
+//! below them the seed or the value.
 
 use sdrk_core::num::q15_from_f64;
 use sdrk_core::types::Q15;

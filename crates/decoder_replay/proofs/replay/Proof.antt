@@ -4,13 +4,10 @@ use Rattle.decoder_replay.proofs.replay.Statement.{statement}
 use Rattle.decoder_replay.proofs.replay.Tie as tie
 
 abbrev Inv-loop : tie.InvT-loop
-Inv-loop fd t₀ desk₀ turns₀ t desk turns = Unit {0}
+Inv-loop fd desk₀ turns₀ desk turns = Unit {0}
 
 abbrev μ-loop : tie.MeasureT-loop
-μ-loop fd t₀ desk₀ turns₀ t desk turns = turns
-
-fresh-requires : tie.Need-fresh-requires Inv-loop μ-loop
-fresh-requires c κs = tt
+μ-loop fd desk₀ turns₀ desk turns = turns
 
 empty-requires : tie.Need-empty-requires Inv-loop μ-loop
 empty-requires c κs = tt
@@ -42,7 +39,6 @@ replay-spec =
     (tie.spec
     Inv-loop
     μ-loop
-    fresh-requires
     empty-requires
     loop-holds
     next-requires

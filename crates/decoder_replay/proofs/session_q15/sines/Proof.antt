@@ -1,20 +1,17 @@
--- `decoder_replay::session_q15::sines` is safe and ends. The slice keeps its length, and the measure is how many samples are left. Assumes nothing.
+-- `decoder_replay::session_q15::sines` is safe and ends. The measure is how many samples are left. Assumes nothing.
 use borrow.Author.Needs.{needs}
 use Prim.Native.Nat.{_-_}
-use mathlib.Core.Path.{_≡_, refl}
-use native.Mathlib.Omega.{arith}
-use lib.ListN.{length, length-set}
 use Rattle.decoder_replay.proofs.session_q15.sines.Statement.{statement}
 use Rattle.decoder_replay.proofs.session_q15.sines.Tie as tie
 
 abbrev Inv-loop : tie.InvT-loop
-Inv-loop d size table out₀ p₀ i₀ out p i = length out ≡ length out₀
+Inv-loop from step size table out₀ p₀ i₀ out p i = Unit {0}
 
 abbrev μ-loop : tie.MeasureT-loop
-μ-loop d size table out₀ p₀ i₀ out p i = length out₀ - i
+μ-loop from step size table out₀ p₀ i₀ out p i = 80 - i
 
 loop-holds : tie.Need-loop-holds Inv-loop μ-loop
-loop-holds c = refl
+loop-holds c = tt
 
 sine-at-requires : tie.Need-sine-at-requires Inv-loop μ-loop
 sine-at-requires c κs = tt
@@ -25,11 +22,11 @@ cos-q15-requires c κs = tt
 q15-mul-requires : tie.Need-q15-mul-requires Inv-loop μ-loop
 q15-mul-requires c κs = tt
 
-mul-t7 : tie.Need-mul-t7 Inv-loop μ-loop
-mul-t7 c = search needs
+mul-t12 : tie.Need-mul-t12 Inv-loop μ-loop
+mul-t12 c = search needs
 
-slice-set-from-out : tie.Need-slice-set-from-out Inv-loop μ-loop
-slice-set-from-out c = search needs
+element-set-from-out : tie.Need-element-set-from-out Inv-loop μ-loop
+element-set-from-out c = search needs
 
 wrapping-add-u32-requires : tie.Need-wrapping-add-u32-requires Inv-loop μ-loop
 wrapping-add-u32-requires c κs = tt
@@ -41,10 +38,7 @@ loop-less : tie.Need-loop-less Inv-loop μ-loop
 loop-less c = search needs
 
 loop-again : tie.Need-loop-again Inv-loop μ-loop
-loop-again c = rw length-set (omega arith)
-
-same-length : tie.Need-same-length Inv-loop μ-loop
-same-length c = search needs
+loop-again c = tt
 
 returns : tie.Need-returns Inv-loop μ-loop
 returns c = tt
@@ -59,11 +53,10 @@ sines-spec =
     sine-at-requires
     cos-q15-requires
     q15-mul-requires
-    mul-t7
-    slice-set-from-out
+    mul-t12
+    element-set-from-out
     wrapping-add-u32-requires
     add-i
     loop-less
     loop-again
-    same-length
     returns)

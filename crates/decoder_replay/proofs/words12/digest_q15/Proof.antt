@@ -1,7 +1,6 @@
 -- `decoder_replay::words12::digest_q15` is safe and ends. The measure is how many samples are left. Assumes nothing.
 use borrow.Author.Needs.{needs}
 use Prim.Native.Nat.{_-_}
-use lib.ListN.{length}
 use Rattle.decoder_replay.proofs.words12.digest_q15.Statement.{statement}
 use Rattle.decoder_replay.proofs.words12.digest_q15.Tie as tie
 
@@ -9,7 +8,7 @@ abbrev Inv-loop : tie.InvT-loop
 Inv-loop x h₀ i₀ h i = Unit {0}
 
 abbrev μ-loop : tie.MeasureT-loop
-μ-loop x h₀ i₀ h i = length x - i
+μ-loop x h₀ i₀ h i = 80 - i
 
 loop-holds : tie.Need-loop-holds Inv-loop μ-loop
 loop-holds c = tt
@@ -17,8 +16,8 @@ loop-holds c = tt
 mul-word-i16 : tie.Need-mul-word-i16 Inv-loop μ-loop
 mul-word-i16 c = search needs
 
-shared-slice-copy-out-word-i16 : tie.Need-shared-slice-copy-out-word-i16 Inv-loop μ-loop
-shared-slice-copy-out-word-i16 c = search needs
+element-copy-out-word-i16 : tie.Need-element-copy-out-word-i16 Inv-loop μ-loop
+element-copy-out-word-i16 c = search needs
 
 word-i16-requires : tie.Need-word-i16-requires Inv-loop μ-loop
 word-i16-requires c κs = tt
@@ -46,7 +45,7 @@ digest-q15-spec =
     μ-loop
     loop-holds
     mul-word-i16
-    shared-slice-copy-out-word-i16
+    element-copy-out-word-i16
     word-i16-requires
     digest-requires
     add-i

@@ -1,5 +1,5 @@
-// Document 01's other cases of the decoder, and one case for each refusal. What each has to write
-// stands in the file stdout; it was worked out from the document.
+// Runs document 01's other cases of the decoder, and one case for each refusal, plain and fast. What
+// each has to write stands in the file stdout; it was worked out from the document.
 use crate::show::done;
 use crate::show::label;
 use crate::show::number;
@@ -18,6 +18,8 @@ use pll::pll_q15::StereoPllQ15;
 ghost use mathlib.Core.Path.{_≡_};
 ghost use Prim.Native.Nat.{_≤_};
 ghost use lib.ListN.{length};
+
+mod show;
 
 // A construction in f32: the limit's pattern, or the refusal.
 fn new_f32(pilot: f64, natural: f64, level: f64, beta: f64, rate: f64) {
@@ -314,7 +316,7 @@ fn scans() {
     scan(b"scan of NaN:", 0.0 / 0.0);
 }
 
-pub(crate) fn run() {
+fn main() {
     let ones = [1.0f32; 4097];
     let halves = [16384i16; 4097];
     constructions();
