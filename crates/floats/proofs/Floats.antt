@@ -3,16 +3,16 @@ use Prim.Native.Nat.{ℕ, zero, suc, _+_, _-_, _*_, _/_, _%_, _^_, _≤_, _<_}
 use mathlib.Core.Path.{_≡_, refl, sym, ap, _∙_, subst}
 use mathlib.Core.Bool.{Bool, true, false, not, cond}
 use native.Mathlib.Omega.{arith}
-use native.Mathlib.Nat.{mul-pos, mul-one, mul-assoc, mod-lt, div-le-self, div-lt-self, le-trans, lt-of-lt-of-le}
-use borrow.Author.Tests.{lt-ltb, le-leb, lt-leb}
-use lib.Dec.{T, ltb, leb, le→leb, lit<}
+use native.Mathlib.Nat.{mul-one, mul-assoc, mod-lt, div-le-self, div-lt-self}
+use borrow.Author.Tests.{le-leb, lt-leb}
+use lib.Dec.{T, leb, le→leb, lit<}
 use lib.IntN.{pos, negℤ, _-ℤ_}
 use lib.Pow.{pow-add, pow-pos, pow-mono}
-use lib.Ieee.{Float, nan, inf, fin, Format, binary64, up, down, lt, ne, neg, ofInt, round, fits, isNan, inFloat, toBits, toSigned, top}
+use lib.Ieee.{Float, nan, inf, fin, binary64, up, down, ne, neg, ofInt, round, fits, isNan, inFloat, toBits, toSigned, top}
 use lib.Ieee.Compare.{differs-from-itself}
 use lib.Ieee.Fits.{down-pos}
 use lib.Ieee.Exact.{HasValue}
-use lib.Ieee.Scale.{finite, round-same}
+use lib.Ieee.Scale.{finite}
 use mir.Syntax.{w64}
 use mir.Val.{SFits, toZ, ofZ}
 use mir.Facts.{toZ-ofZ, toZ-pos}
@@ -24,7 +24,7 @@ use Rattle.rounding.proofs.Pattern.{sig-is, sig-lt, decode, finite-of-field, ro
 use Rattle.rounding.proofs.Own.{round-own}
 use Rattle.rounding.proofs.Value.{toSigned-whole}
 use Rattle.rounding.proofs.Lin.{up-neg, dn-neg, sub-law', eq-in, abs-fits, abs-negℤ}
-use Rattle.floats.specs.Floats.{wholeOf, toFormat}
+use Rattle.floats.specs.Floats.{wholeOf}
 
 -- ---- the digits of an f64, by the fields of its pattern
 pub digits-low : (b : ℕ) → b % 9223372036854775808 < 4503599627370496 → b % 4503599627370496 ≡ digits binary64 b

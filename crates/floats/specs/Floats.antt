@@ -1,7 +1,7 @@
 -- Floats by their exact values. Sources: IEEE 754-2019 (5.9 roundToIntegral, 5.4.2 formatOf-convertFormat, 5.4.1 convertFromInt), document 01, "Number helpers". Definitions only.
 -- `fin s m e` is the number m * 2^e, negative where s is true: the fraction m * up e / down e. `round f s num den` is the value of the format f nearest to num/den,
 -- a tie to the even one, with the sign s; it alone knows the format, subnormal values and the overflow to infinity (lib.Ieee, the kit's account of IEEE 754).
-use Prim.Native.Nat.{ℕ, _*_}
+use Prim.Native.Nat.{_*_}
 use mathlib.Core.Bool.{Bool, false, _&&_}
 use lib.Ieee.{Float, nan, inf, fin, up, down, Format, binary64, round, le}
 use Rattle.rounding.specs.Cut.{Rule, downward, halfEven, cutBy}

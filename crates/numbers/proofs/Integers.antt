@@ -1,21 +1,20 @@
 -- Laws of the whole-number definitions, for the functions here and the layers above. `up`, `dn` and the laws that `omega` reads are those of rounding's Lin.antt. Assumes nothing.
-use Prim.Native.Nat.{ℕ, zero, suc, _+_, _-_, _*_, _/_, _%_, _^_, _≤_, _<_}
-use mathlib.Core.Path.{_≡_, refl, sym, ap, _∙_, subst}
+use Prim.Native.Nat.{ℕ, suc, _+_, _-_, _*_, _/_, _^_, _≤_, _<_}
+use mathlib.Core.Path.{_≡_, refl, ap, _∙_}
 use mathlib.Core.Bool.{Bool, true, false, cond}
 use native.Mathlib.Omega.{arith}
-use native.Mathlib.Nat.{add-mul, one-mul, zero-mul, div-add-mod', mod-lt, suc-mul, lt-of-mul-lt-mul-right, lt-of-lt-of-le, le-of-eq}
-use native.Mathlib.Numerals.{add-one}
-use borrow.Author.Tests.{ne-eqb, lt-leb, eqb-true, eqb-false}
+use native.Mathlib.Nat.{add-mul, one-mul, zero-mul, div-add-mod', mod-lt, suc-mul, lt-of-mul-lt-mul-right}
+use borrow.Author.Tests.{ne-eqb, lt-leb}
 use lib.Dec.{lit<, eqb, leb}
 use lib.Pow.{pow-pos, pow-add}
 use lib.IntN.{ℤ, pos, negsuc, negℤ, natAbs, _+ℤ_, _-ℤ_, _*ℤ_}
-use lib.Signed.{ltZ, shrZ, mag}
+use lib.Signed.{ltZ, shrZ}
 use mir.Syntax.{w16, w64}
 use mir.Val.{SFits, toZ, ofZ}
 use mir.Facts.{sfits-widen, toZ-ofZ}
 use Rattle.rounding.specs.Cut.{halfUp, cutBy}
 use Rattle.rounding.proofs.Cut.{cut-halfUp}
-use Rattle.rounding.proofs.Lin.{up, dn, add-law, sub-law', up-neg, dn-neg, add-le, abs-negℤ, mul-le, abs-fits, fits-abs, fit-out, fit-in, lt-yes, lt-no, lt-no-in, shr-law, eq-in}
+use Rattle.rounding.proofs.Lin.{up, dn, add-law, up-neg, dn-neg, add-le, abs-negℤ, mul-le, abs-fits, fits-abs, fit-out, fit-in, lt-yes, lt-no, lt-no-in, shr-law, eq-in}
 use Rattle.numbers.specs.Integers.{sat16Of, stop64, roundShiftOf, modZ}
 
 -- ---- an i16 in an i64

@@ -1,6 +1,6 @@
 -- Linear arithmetic on ℤ by `omega`, which reads ℕ alone. `up z` and `dn z` are z's part above 0 and its part below 0: z is up z − dn z.
 -- A law turns a sum, a test or a fit into a linear fact of these numbers, which goes into `omega`'s list; a law that ends `-in` goes back. Assumes nothing.
-use Prim.Native.Nat.{ℕ, zero, suc, _+_, _-_, _*_, _/_, _%_, _^_, _<_, _≤_}
+use Prim.Native.Nat.{ℕ, zero, suc, _+_, _-_, _*_, _/_, _^_, _<_, _≤_}
 use mathlib.Core.Path.{_≡_, refl, sym, ap, _∙_, subst}
 use mathlib.Core.Bool.{Bool, true, false, cond, true≢false, false≢true}
 use native.Mathlib.Omega.{arith}

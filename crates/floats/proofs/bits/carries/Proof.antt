@@ -1,8 +1,7 @@
 use borrow.Author.Needs.{needs}
-use mathlib.Core.Path.{_≡_, refl, ap, _∙_, sym}
+use mathlib.Core.Path.{_≡_, refl}
 use mathlib.Core.Bool.{Bool, true, false, _&&_, _||_}
 use Rattle.rounding.specs.Cut.{downward, halfEven, grows, restBy}
-use Rattle.floats.specs.Rules.{ruleOf}
 use Rattle.floats.proofs.bits.carries.Statement.{statement}
 use Rattle.floats.proofs.bits.carries.Tie as tie
 

@@ -1,14 +1,12 @@
 -- With h the place of the first digit that falls off, 2^place is 2 * h. Assumes nothing.
 use borrow.Author.Needs.{needs}
-use Prim.Native.Nat.{ℕ, _+_, _-_, _*_, _/_, _%_, _^_, _≤_, _<_}
-use mathlib.Core.Path.{_≡_, refl, sym, ap, _∙_, subst}
+use Prim.Native.Nat.{ℕ, _+_, _-_, _*_, _%_, _^_, _≤_, _<_}
+use mathlib.Core.Path.{_≡_, refl, sym, ap, _∙_}
 use mathlib.Core.Bool.{Bool, true, false, cond}
 use native.Mathlib.Omega.{arith}
 use native.Mathlib.Nat.{one-mul, mod-eq-of-lt, mul-comm, lt-of-lt-of-le, div-le-self}
-use lib.Dec.{eqb, ltb, lit<}
 use lib.Pow.{pow-lt, pow-pos, pow-mono, pow-add}
 use mir.Val.{boolByte}
-use Rattle.rounding.specs.Cut.{Rule, restBy, grows, cutBy}
 use Rattle.rounding.proofs.Cut.{cut-whole, cut-digits, cut-off}
 use Rattle.floats.proofs.bits.cut.Statement.{statement}
 use Rattle.floats.proofs.bits.cut.Tie as tie

@@ -1,10 +1,10 @@
 -- `num::low32` meets its contract. Assumes nothing.
-use Prim.Native.Nat.{ℕ, _+_, _*_, _^_, _<_, _≤_}
-use mathlib.Core.Path.{_≡_, _∙_, ap}
+use Prim.Native.Nat.{ℕ, _^_, _<_}
+use mathlib.Core.Path.{_≡_}
 use native.Mathlib.Omega.{arith}
 use native.Mathlib.Nat.{lt-of-le-of-lt}
 use lib.Dec.{lit<}
-use lib.IntN.{ℤ, pos, negℤ, natAbs, _-ℤ_, _*ℤ_}
+use lib.IntN.{ℤ, pos, negℤ, _-ℤ_, _*ℤ_}
 use lib.Signed.{shrZ, mag-shr}
 use mir.Syntax.{w64}
 use mir.Val.{SFits, toZ, ofZ}

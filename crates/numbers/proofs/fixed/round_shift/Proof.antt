@@ -1,6 +1,6 @@
 -- `num::round_shift` meets its contract. Each lemma takes what the machine holds (Y for x, H for the half, Z for the difference) with the equation that says what it is. Assumes nothing.
-use Prim.Native.Nat.{ℕ, _+_, _-_, _*_, _/_, _%_, _^_, _<_, _≤_}
-use mathlib.Core.Path.{_≡_, refl, sym, ap, _∙_}
+use Prim.Native.Nat.{ℕ, _-_, _*_, _%_, _^_, _<_, _≤_}
+use mathlib.Core.Path.{_≡_, sym, _∙_}
 use mathlib.Core.Bool.{Bool, true, false, cond}
 use native.Mathlib.Omega.{arith}
 use native.Mathlib.Nat.{one-mul, mod-eq-of-lt, div-le-self, lt-of-le-of-lt}
@@ -14,7 +14,7 @@ use mir.Syntax.{w64}
 use mir.Val.{SFits, toZ, ofZ}
 use mir.Facts.{toZ-ofZ, toZ-pos}
 use Rattle.numbers.specs.Integers.{roundShiftOf, stop64}
-use Rattle.rounding.proofs.Lin.{up, dn, add-law, up-neg, dn-neg, lt-yes, lt-no, lt-yes-in, lt-no-in, fit-in, fit-out}
+use Rattle.rounding.proofs.Lin.{add-law, up-neg, dn-neg, lt-yes, lt-no, lt-yes-in, lt-no-in, fit-in, fit-out}
 use Rattle.numbers.proofs.fixed.round_shift.Statement.{statement}
 use Rattle.numbers.proofs.fixed.round_shift.Tie as tie
 
