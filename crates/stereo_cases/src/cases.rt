@@ -139,6 +139,52 @@ fn oscillators() {
     oscillator(b"oscillator, a quarter:", 1.0, 4.0);
 }
 
+// The calls of an oscillator that are never turned back.
+fn oscillator_calls() {
+    line(b"oscillator, calls:");
+    let o = Nco::from_increment(7);
+    state(o);
+    let p = o.set_phase(4294967290);
+    number(p.phase() as u64);
+    number(p.increment() as u64);
+    state(p.advance(3));
+    state(p.reset());
+    done();
+}
+
+// The same of an encoder, and what it answers of its levels.
+fn encoder_calls() {
+    line(b"encoder, calls:");
+    let e = encoder();
+    number(e.phase() as u64);
+    number(e.increment() as u64);
+    level(e.main());
+    level(e.pilot());
+    let p = e.set_phase(9);
+    state(p.nco);
+    let r = e.reset();
+    state(r.nco);
+    done();
+}
+
+fn encoder_rds_calls() {
+    line(b"encoder with RDS, calls:");
+    let e = StereoEncodeRds {
+        enc: encoder(),
+        rds: 0.0625,
+    };
+    number(e.phase() as u64);
+    number(e.increment() as u64);
+    level(e.main());
+    level(e.pilot());
+    level(e.rds());
+    let p = e.set_phase(9);
+    state(p.encoder().nco);
+    let r = e.reset();
+    state(r.enc.nco);
+    done();
+}
+
 fn constructions() {
     construct(b"encoder:", 19000.0, 0.9, 0.09, 0.04, 192000.0);
     construct(b"encoder, rate -1:", 19000.0, 0.9, 0.09, 0.04, -1.0);
@@ -211,8 +257,11 @@ fn verdicts() {
 pub(crate) fn run() {
     increments();
     oscillators();
+    oscillator_calls();
     constructions();
     further_constructions();
     sets();
+    encoder_calls();
+    encoder_rds_calls();
     verdicts();
 }
