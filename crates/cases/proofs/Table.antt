@@ -10,7 +10,7 @@ use Rattle.phase.specs.Correction.{correctionOf}
 use Rattle.stereo.specs.Matrix.{leftQ15, rightQ15}
 use Rattle.multiplex.specs.Multiplex.{multiplexOf}
 use Rattle.decoder.specs.Machine.{nextOf, differenceOf}
-use Rattle.steps.specs.Formats.{levelQ15}
+use Rattle.decoder.specs.Formats.{levelQ15}
 use Rattle.cases.specs.Cases.{Table, cases}
 
 pub table : Table cases

@@ -12,7 +12,7 @@ use Rattle.stereo.specs.Matrix.{leftQ15, rightQ15}
 use Rattle.multiplex.specs.Multiplex.{multiplexOf}
 use Rattle.pll.specs.State.{Pll}
 use Rattle.decoder.specs.Machine.{nextOf, differenceOf}
-use Rattle.steps.specs.Formats.{q15}
+use Rattle.decoder.specs.Formats.{q15}
 
 -- a row: what is asked, and what document 01 says
 pub data Case : Type 0 where

@@ -7,8 +7,7 @@ use contract.Lifetimes.{Lfts}
 use denote.Ref.{RefT}
 use Rattle.blocks.specs.Answer.{Said, accepted}
 use Rattle.pll.specs.State.{Pll, enabledOf, resetOf}
-use Rattle.steps.specs.Arithmetic.{Arithmetic}
-use Rattle.decoder.specs.Machine.{Blocked, blockOf}
+use Rattle.decoder.specs.Machine.{Arithmetic, Blocked, blockOf}
 use Rattle.decoder.specs.Calls.{Call, block, enable, disable, reset, done, callOf, machine, final}
 
 -- a slice that is lent: where it lies, its ghost name, and what it holds

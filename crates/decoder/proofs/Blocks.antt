@@ -7,8 +7,7 @@ use Rattle.blocks.specs.Answer.{Said, accepted, turned, firstOf, accepts}
 use Rattle.blocks.proofs.Lengths.{both}
 use Rattle.blocks.proofs.Tests.{failed, passed}
 use Rattle.pll.specs.State.{Pll}
-use Rattle.steps.specs.Arithmetic.{Arithmetic}
-use Rattle.decoder.specs.Machine.{Ran, lengthsSay, blockSays, blockOf}
+use Rattle.decoder.specs.Machine.{Arithmetic, Ran, lengthsSay, blockSays, blockOf}
 use Rattle.decoder.proofs.Loops.{turned-back, carried-out, lengths-equal}
 
 taken-fit : (b : Bool) → accepts (cond b accepted (turned 0)) ≡ true → b ≡ true

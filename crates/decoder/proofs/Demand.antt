@@ -13,9 +13,9 @@ use lib.Ieee.{Float, neg, le}
 use Rattle.blocks.specs.Answer.{says}
 use Rattle.blocks.specs.declared.answer.Answer.{Answer}
 use Rattle.pll.specs.State.{Pll}
-use Rattle.steps.specs.Arithmetic.{Arithmetic}
+use Rattle.decoder.specs.Machine.{Arithmetic}
 use Rattle.pll.specs.Fit.{withinZ, fitQ15}
-use Rattle.steps.specs.Formats.{f32, q15}
+use Rattle.decoder.specs.Formats.{f32, q15}
 use Rattle.pll.specs.Gains.{Gains, Built, made, refused, following, commonOf, freshF32, newF32Of, freshQ15, allHold, guarded, alive, buildQ15, newQ15Of}
 use Rattle.pll.specs.Records.{pllF32, saysF32, pllQ15, saysQ15}
 use Rattle.decoder.specs.Calls.{Call, machine, final, history, Locked, UnitTables, Pilots16}

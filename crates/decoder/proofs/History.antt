@@ -7,8 +7,7 @@ use mathlib.Core.List.{List, [], _∷_, _++_, append-nil}
 use lib.ListN.{length, getD}
 use Rattle.blocks.specs.Answer.{accepts}
 use Rattle.pll.specs.State.{Pll}
-use Rattle.steps.specs.Arithmetic.{Arithmetic, decide}
-use Rattle.decoder.specs.Machine.{stereoOf, levelOf, nextOf, stateAt, blockOf}
+use Rattle.decoder.specs.Machine.{Arithmetic, decide, stereoOf, levelOf, nextOf, stateAt, blockOf}
 use Rattle.decoder.specs.Calls.{Call, block, enable, disable, reset, callOf, final, levelsIn, levelsAfter, history, NoneUnder, Locked}
 
 module _ {A : Type 0} (F : Arithmetic A) (on off : A) where

@@ -17,9 +17,8 @@ use Rattle.pll.specs.State.{Pll}
 use Rattle.pll.specs.Fit.{withinZ, fitQ15}
 use Rattle.pll.proofs.Ranges.{within-in}
 use Rattle.pll.proofs.Fit.{Fit, fit-in, fitted, level-fit, room}
-use Rattle.steps.specs.Arithmetic.{limited}
-use Rattle.decoder.specs.Machine.{nextOf, differenceOf}
-use Rattle.steps.specs.Formats.{q15}
+use Rattle.decoder.specs.Machine.{limited, nextOf, differenceOf}
+use Rattle.decoder.specs.Formats.{q15}
 use Rattle.decoder.proofs.Level.{next-within}
 use Rattle.decoder.proofs.Loops.{Going, going-next}
 

@@ -13,7 +13,7 @@ use Rattle.rounding.proofs.Lin.{up, dn, add-law, sub-law', up-neg, dn-neg, abs-
 use Rattle.numbers.specs.Integers.{roundShiftOf}
 use Rattle.numbers.proofs.Integers.{round-is}
 use Rattle.pll.specs.Fit.{withinZ, levelLow, levelHigh, levelFit}
-use Rattle.steps.specs.Formats.{levelQ15}
+use Rattle.decoder.specs.Formats.{levelQ15}
 use Rattle.pll.proofs.Ranges.{and-out, within-out, within-in}
 
 -- z keeps the level's bounds

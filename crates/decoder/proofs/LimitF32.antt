@@ -20,9 +20,9 @@ use Rattle.numbers.specs.Flush.{flushOf, tiny}
 use Rattle.phase.specs.Lookup.{cosF32, fracF32}
 use Rattle.blocks.specs.Answer.{accepts}
 use Rattle.pll.specs.State.{Pll, enabledOf, resetOf}
-use Rattle.steps.specs.Arithmetic.{limited}
-use Rattle.decoder.specs.Machine.{errorOf, nextOf, stateAt, blockOf}
-use Rattle.steps.specs.Formats.{f32, gatherF32}
+use Rattle.decoder.specs.Machine.{limited, errorOf, nextOf, stateAt, blockOf}
+use Rattle.steps.specs.Rules.{gatherF32}
+use Rattle.decoder.specs.Formats.{f32}
 use Rattle.pll.specs.Gains.{Gains, Built, made, refused, following, nought, narrows, allNarrow, commonOf, freshF32, newF32Of}
 use Rattle.decoder.specs.Calls.{Call, block, enable, disable, reset, final, unitTable, UnitTables}
 use Rattle.pll.proofs.Ranges.{and-out}

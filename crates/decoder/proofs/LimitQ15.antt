@@ -12,7 +12,7 @@ use Rattle.blocks.specs.Answer.{accepts}
 use Rattle.pll.specs.State.{Pll, enabledOf, resetOf}
 use Rattle.decoder.specs.Machine.{stateAt, blockOf}
 use Rattle.pll.specs.Fit.{fitQ15}
-use Rattle.steps.specs.Formats.{q15}
+use Rattle.decoder.specs.Formats.{q15}
 use Rattle.decoder.specs.Calls.{Call, block, enable, disable, reset, final, Samples16, Pilots16}
 use Rattle.pll.proofs.Fit.{fit-in, fitted}
 use Rattle.decoder.proofs.Kept.{fit-next}

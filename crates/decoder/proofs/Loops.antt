@@ -11,8 +11,7 @@ use Rattle.blocks.specs.Answer.{Said, accepts, firstOf, tableRule, inputRule, o
 use Rattle.blocks.proofs.Samples.{Filled, filled-start, filled-next, filled-end}
 use Rattle.blocks.proofs.Lengths.{both, length-is}
 use Rattle.pll.specs.State.{Pll}
-use Rattle.steps.specs.Arithmetic.{Arithmetic}
-use Rattle.decoder.specs.Machine.{nextOf, differenceOf, stateAt, Ran, lengthsSay, blockSays, blockOf}
+use Rattle.decoder.specs.Machine.{Arithmetic, nextOf, differenceOf, stateAt, Ran, lengthsSay, blockSays, blockOf}
 
 -- an element that is there does not turn on what stands for one that is not
 pub any-default : {A : Type 0} (l : List A) (i : ℕ) (a b : A) → i < length l → getD l i a ≡ getD l i b

@@ -13,7 +13,7 @@ use Rattle.phase.specs.Lookup.{sineAt, cosQ15}
 use Rattle.phase.proofs.Between.{cosQ15-fits}
 use Rattle.pll.specs.State.{Pll}
 use Rattle.decoder.specs.Machine.{nextOf, differenceOf}
-use Rattle.steps.specs.Formats.{q15}
+use Rattle.decoder.specs.Formats.{q15}
 
 module _ (t : List ℤ) where
   pub lookup-le : (a : ℕ) {s : ℤ} → s ≡ cosQ15 t a → natAbs s ≤ 2 ^ 15

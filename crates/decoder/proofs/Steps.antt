@@ -5,8 +5,7 @@ use mathlib.Core.Bool.{Bool, _&&_, cond}
 use mathlib.Core.List.{List}
 use Rattle.phase.specs.Lookup.{sineAt}
 use Rattle.pll.specs.State.{Pll, movedTo}
-use Rattle.steps.specs.Arithmetic.{Arithmetic, decide, limited}
-use Rattle.decoder.specs.Machine.{errorOf, levelOf, nextOf, differenceOf}
+use Rattle.decoder.specs.Machine.{Arithmetic, decide, limited, errorOf, levelOf, nextOf, differenceOf}
 
 -- the numbers that a step works out for the pilot p in the state d
 pub record Parts {A : Type 0} (F : Arithmetic A) (t : List A) (d : Pll A) (p e level integ : A) (stereo : Bool) (correction : ℕ) : Type 0 where

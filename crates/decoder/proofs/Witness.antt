@@ -12,12 +12,11 @@ use Rattle.blocks.specs.Answer.{Said, says, accepted, turned, firstOf, lengthRu
 use Rattle.blocks.specs.declared.answer.Answer.{Answer}
 use Rattle.blocks.specs.declared.answer.Answer.the-variants.{Accepted, Unfit, Table, Input, Output}
 use Rattle.pll.specs.State.{Pll, enabledOf, resetOf}
-use Rattle.steps.specs.Arithmetic.{Arithmetic}
-use Rattle.decoder.specs.Machine.{Blocked, lengthsSay, blockSays, blockOf}
+use Rattle.decoder.specs.Machine.{Arithmetic, Blocked, lengthsSay, blockSays, blockOf}
 use Rattle.rounding.specs.Cut.{restOf, cutBy}
 use Rattle.floats.specs.Floats.{wholeOf, toFormat}
 use Rattle.numbers.specs.Scaled.{scaledOf}
-use Rattle.steps.specs.Formats.{f32, q15}
+use Rattle.decoder.specs.Formats.{f32, q15}
 use Rattle.pll.specs.Gains.{Gains, made, gainsOf, commonOf, freshF32, freshQ15, buildQ15, newF32Of, newQ15Of}
 use Rattle.decoder.specs.Calls.{Call, block, enable, disable, reset}
 use Rattle.pll.specs.declared.pll_f32.StereoPllF32.{StereoPllF32}

@@ -11,9 +11,8 @@ use mir.Val.{SFits}
 use Rattle.floats.specs.Floats.{inRange}
 use Rattle.blocks.specs.Answer.{accepted, accepts}
 use Rattle.pll.specs.State.{Pll, enabledOf, resetOf}
-use Rattle.steps.specs.Arithmetic.{Arithmetic}
-use Rattle.decoder.specs.Machine.{stateAt, Blocked, blockOf}
-use Rattle.steps.specs.Formats.{f32}
+use Rattle.decoder.specs.Machine.{Arithmetic, stateAt, Blocked, blockOf}
+use Rattle.decoder.specs.Formats.{f32}
 
 -- a call with what it brings: table, mpx, pilot, and what the two outputs held
 pub data Call (A : Type 0) : Type 0 where

@@ -1,4 +1,4 @@
--- Document 01's plain machine, over the format: "The plain machine, one sample", steps 1 to 7, and a whole block. It knows nothing of the program. What a step says of one format's numbers, the rule of the decision and the limits are in crates/steps/specs/Arithmetic.antt. Definitions only.
+-- Document 01's plain machine, over the format: "The plain machine, one sample", steps 1 to 7, and a whole block. It knows nothing of the program. The rules of steps 4 and 6 are in crates/steps/specs/Rules.antt, with the parts of the code that follow them. Definitions only.
 use Prim.Native.Nat.{ℕ, zero, suc, _+_, _%_, _^_}
 use mathlib.Core.Bool.{Bool, _&&_, cond}
 use mathlib.Core.List.{List}
@@ -8,9 +8,41 @@ use Rattle.phase.specs.Lookup.{sineAt}
 use Rattle.blocks.specs.Answer.{Said, accepted, turned, firstOf, tableRule, inputRule, outputRule, kept}
 use Rattle.blocks.specs.Samples.{samples}
 use Rattle.pll.specs.State.{Pll, movedTo}
-use Rattle.steps.specs.Arithmetic.{Arithmetic, decide, limited}
+use Rattle.steps.specs.Rules.{decideBy, limitedBy}
+
+-- what the steps say of one format's numbers; specs/Formats.antt has the two
+pub record Arithmetic (A : Type 0) : Type 0 where
+  -- 1: the cosine from the table at a phase
+  pub lookup : List A → ℕ → A
+  -- 2: whether a pilot sample takes part, the product of two numbers, and 0
+  pub usable : A → Bool
+  pub times : A → A → A
+  pub nought : A
+  -- 3: the next level, from beta, the level and q
+  pub levelNext : A → A → A → A
+  -- 4 and 6: x is at or above y; x is below y
+  pub reaches : A → A → Bool
+  pub under : A → A → Bool
+  -- 5: x times s2
+  pub demodulate : A → A → A
+  -- 6: integ plus ki times e, from the three of them, and the other sign
+  pub gather : A → A → A → A
+  pub minus : A → A
+  -- 7: kp times e plus integ, and the correction
+  pub frequency : A → A → A → A
+  pub correction : A → ℕ
+  -- whether a block takes the record (cause 0)
+  pub fit : Pll A → Bool
 
 module _ {A : Type 0} (F : Arithmetic A) where
+  -- 4: at or above on: stereo; else below off: mono; else kept
+  abbrev pub decide : A → A → A → Bool → Bool
+  decide = decideBy (F .reaches) (F .under)
+
+  -- 6: above imax it becomes imax, after that below -imax it becomes -imax
+  abbrev pub limited : A → A → A
+  limited = limitedBy (F .under) (F .minus)
+
   -- 1: c is the table at the phase, s at `sineAt 1` of it, s2 at `sineAt 2`; each stands where it is used
   -- 2: e is p times c where the pilot takes part, else 0
   abbrev pub errorOf : List A → Pll A → A → A
@@ -22,7 +54,7 @@ module _ {A : Type 0} (F : Arithmetic A) where
 
   -- 4: the decision, skipped there too
   abbrev pub stereoOf : List A → Pll A → A → Bool
-  stereoOf t d p = cond (F .usable p) (decide F (levelOf t d p) (d .on) (d .off) (d .stereo)) (d .stereo)
+  stereoOf t d p = cond (F .usable p) (decide (levelOf t d p) (d .on) (d .off) (d .stereo)) (d .stereo)
 
   -- 5: the difference; the sum is x
   unfoldable pub differenceOf : List A → Pll A → A → A → A
@@ -30,7 +62,7 @@ module _ {A : Type 0} (F : Arithmetic A) where
 
   -- 6: the integrator, limited
   abbrev pub integOf : List A → Pll A → A → A
-  integOf t d p = limited F (d .imax) (F .gather (d .integ) (d .ki) (errorOf t d p))
+  integOf t d p = limited (d .imax) (F .gather (d .integ) (d .ki) (errorOf t d p))
 
   -- 7: the phase, and the state after the sample
   unfoldable pub nextOf : List A → Pll A → A → Pll A

@@ -27,7 +27,8 @@ ghost use lib.ListN.{length};
 ghost use lib.Ieee.Scale.{finite};
 ghost use Rattle.blocks.specs.Answer.{says};
 ghost use Rattle.decoder.specs.Machine.{nextOf, differenceOf, blockOf, Ran};
-ghost use Rattle.steps.specs.Formats.{f32, allFinite};
+ghost use Rattle.steps.specs.Rules.{allFinite};
+ghost use Rattle.decoder.specs.Formats.{f32};
 ghost use Rattle.pll.specs.Records.{pllF32};
 
 // One sample whose pilot may not be finite.

@@ -23,7 +23,7 @@ ghost use Rattle.numbers.specs.Integers.{sat16Of, roundShiftOf};
 ghost use Rattle.blocks.specs.Answer.{says};
 ghost use Rattle.decoder.specs.Machine.{nextOf, differenceOf, blockOf, Ran};
 ghost use Rattle.pll.specs.Fit.{levelFit, fitQ15};
-ghost use Rattle.steps.specs.Formats.{q15, levelQ15};
+ghost use Rattle.decoder.specs.Formats.{q15, levelQ15};
 ghost use Rattle.pll.specs.Records.{pllQ15};
 
 // The level after a sample.

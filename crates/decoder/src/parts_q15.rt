@@ -15,10 +15,9 @@ ghost use lib.IntN.{ℤ, natAbs, _+ℤ_, _*ℤ_};
 ghost use lib.Signed.{nonNeg};
 ghost use lib.Dec.{T};
 ghost use Rattle.numbers.specs.Integers.{roundShiftOf};
-ghost use Rattle.steps.specs.Arithmetic.{limited};
-ghost use Rattle.decoder.specs.Machine.{errorOf, levelOf, nextOf};
+ghost use Rattle.decoder.specs.Machine.{limited, errorOf, levelOf, nextOf};
 ghost use Rattle.pll.specs.Fit.{levelFit, fitQ15};
-ghost use Rattle.steps.specs.Formats.{q15, levelQ15};
+ghost use Rattle.decoder.specs.Formats.{q15, levelQ15};
 ghost use Rattle.pll.specs.Records.{pllQ15};
 
 // A decoder after a sample, and the sample's difference output.

@@ -20,7 +20,7 @@ ghost use mathlib.Core.Path.{_≡_};
 ghost use lib.ListN.{length};
 ghost use Rattle.blocks.specs.Answer.{says};
 ghost use Rattle.decoder.specs.Machine.{nextOf, differenceOf, blockOf, Ran};
-ghost use Rattle.steps.specs.Formats.{f32};
+ghost use Rattle.decoder.specs.Formats.{f32};
 ghost use Rattle.pll.specs.Records.{pllF32};
 
 // One sample.

@@ -7,7 +7,7 @@ ghost use mathlib.Core.Bool.{true, false};
 ghost use lib.Ieee.{nan};
 ghost use Rattle.decoder.specs.Machine.{blockOf};
 ghost use Rattle.pll.specs.State.{enabledOf, resetOf};
-ghost use Rattle.steps.specs.Formats.{f32};
+ghost use Rattle.decoder.specs.Formats.{f32};
 ghost use Rattle.pll.specs.Gains.{nought, newF32Of};
 ghost use Rattle.pll.specs.Records.{pllF32};
 ghost use Rattle.decoder_c.specs.Code.{pllInC, pllOutOfC, newInC, blockedInC, readF32};

@@ -7,7 +7,7 @@ ghost use mathlib.Core.Bool.{true, false};
 ghost use lib.IntN.{pos};
 ghost use Rattle.decoder.specs.Machine.{blockOf};
 ghost use Rattle.pll.specs.State.{enabledOf, resetOf};
-ghost use Rattle.steps.specs.Formats.{q15};
+ghost use Rattle.decoder.specs.Formats.{q15};
 ghost use Rattle.pll.specs.Gains.{newQ15Of};
 ghost use Rattle.pll.specs.Records.{pllQ15};
 ghost use Rattle.decoder_c.specs.Code.{pllInC, pllOutOfC, newInC, blockedInC, readQ15};

@@ -4,7 +4,7 @@ use pll::pll_f32::StereoPllF32;
 ghost use mathlib.Core.Path.{_≡_};
 ghost use Rattle.blocks.specs.Answer.{says};
 ghost use Rattle.decoder.specs.Machine.{blockOf};
-ghost use Rattle.steps.specs.Formats.{f32};
+ghost use Rattle.decoder.specs.Formats.{f32};
 ghost use Rattle.pll.specs.Records.{pllF32};
 
 // A block, the fast way.

@@ -4,7 +4,7 @@ use pll::pll_q15::StereoPllQ15;
 ghost use mathlib.Core.Path.{_≡_};
 ghost use Rattle.blocks.specs.Answer.{says};
 ghost use Rattle.decoder.specs.Machine.{blockOf};
-ghost use Rattle.steps.specs.Formats.{q15};
+ghost use Rattle.decoder.specs.Formats.{q15};
 ghost use Rattle.pll.specs.Records.{pllQ15};
 
 // A block, the fast way.

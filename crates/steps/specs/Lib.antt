@@ -1,2 +1,1 @@
-pub mod Arithmetic
-pub mod Formats
+pub mod Rules

@@ -1,7 +1,7 @@
 // The scan of the pilot: whether every sample is finite, whatever its sign.
 ghost use mathlib.Core.Path.{_≡_};
 ghost use lib.Ieee.Scale.{finite};
-ghost use Rattle.steps.specs.Formats.{allFinite};
+ghost use Rattle.steps.specs.Rules.{allFinite};
 
 // Whether x is finite, by its pattern with the sign bit masked off; a NaN has no pattern to look
 // at, and is told apart before.

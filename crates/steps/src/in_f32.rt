@@ -6,8 +6,7 @@ ghost use mathlib.Core.Bool.{cond};
 ghost use lib.Ieee as Ieee;
 ghost use lib.Ieee.{binary32};
 ghost use lib.Ieee.Scale.{finite};
-ghost use Rattle.steps.specs.Arithmetic.{decide, limited};
-ghost use Rattle.steps.specs.Formats.{f32, levelF32, gatherF32};
+ghost use Rattle.steps.specs.Rules.{decideF32, limitedF32, levelF32, gatherF32};
 ghost use Rattle.pll.specs.Gains.{nought};
 
 pub fn level_next(beta: f32, level: f32, q: f32) -> f32
@@ -17,7 +16,7 @@ pub fn level_next(beta: f32, level: f32, q: f32) -> f32
 }
 
 pub fn decided(level: f32, on: f32, off: f32, was: bool) -> bool
-    ensures { λ r. ⌜ r ≡ decide f32 level on off was ⌝ }
+    ensures { λ r. ⌜ r ≡ decideF32 level on off was ⌝ }
 {
     if level >= on {
         true
@@ -35,7 +34,7 @@ pub fn gathered(integ: f32, ki: f32, e: f32) -> f32
 }
 
 pub fn within(imax: f32, x: f32) -> f32
-    ensures { λ r. ⌜ r ≡ limited f32 imax x ⌝ }
+    ensures { λ r. ⌜ r ≡ limitedF32 imax x ⌝ }
 {
     let y = if x > imax { imax } else { x };
     if y < -imax { -imax } else { y }
@@ -65,7 +64,7 @@ pub fn level_of(p: f32, s: f32, beta: f32, level: f32) -> f32
 }
 
 pub fn stereo_of(p: f32, level: f32, on: f32, off: f32, was: bool) -> bool
-    ensures { λ r. ⌜ r ≡ cond (finite p) (decide f32 level on off was) was ⌝ }
+    ensures { λ r. ⌜ r ≡ cond (finite p) (decideF32 level on off was) was ⌝ }
 {
     if is_finite_f32(p) {
         decided(level, on, off, was)

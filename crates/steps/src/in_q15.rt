@@ -2,11 +2,10 @@
 ghost use mathlib.Core.Path.{_≡_};
 ghost use mathlib.Core.Bool.{cond};
 ghost use lib.IntN.{pos};
-ghost use Rattle.steps.specs.Arithmetic.{decide};
-ghost use Rattle.steps.specs.Formats.{q15};
+ghost use Rattle.steps.specs.Rules.{decideQ15};
 
 pub fn decided(level: i64, on: i64, off: i64, was: bool) -> bool
-    ensures { λ r. ⌜ r ≡ decide q15 level on off was ⌝ }
+    ensures { λ r. ⌜ r ≡ decideQ15 level on off was ⌝ }
 {
     if level >= on {
         true

@@ -5,7 +5,7 @@ use native.Mathlib.Omega.{arith}
 use lib.ListN.{length}
 use lib.Ieee.{nan}
 use Rattle.pll.specs.Gains.{nought}
-use Rattle.steps.specs.Formats.{f32}
+use Rattle.decoder.specs.Formats.{f32}
 use Rattle.pll.specs.Records.{pllF32}
 use Rattle.steps.proofs.Scan.{each-finite}
 use Rattle.decoder.proofs.Loops.{Going, going-start, going-next, going-end, any-default}

@@ -1,6 +1,6 @@
 use borrow.Author.Needs.{needs}
 use Rattle.blocks.specs.Answer.{says}
-use Rattle.steps.specs.Formats.{q15}
+use Rattle.decoder.specs.Formats.{q15}
 use Rattle.pll.specs.Records.{pllQ15}
 use Rattle.decoder.proofs.Blocks.{refused, full-table, runs, ran}
 use Rattle.decoder.proofs.fast_q15.block.Statement.{statement}

@@ -9,7 +9,7 @@ use Rattle.rounding.proofs.Lin.{back}
 use Rattle.phase.specs.Lookup.{sineAt, cosQ15}
 use Rattle.pll.specs.State.{Pll}
 use Rattle.decoder.specs.Machine.{levelOf}
-use Rattle.steps.specs.Formats.{q15}
+use Rattle.decoder.specs.Formats.{q15}
 use Rattle.pll.specs.Records.{pllQ15}
 use Rattle.pll.proofs.Fit.{level-fit}
 use Rattle.pll.proofs.Held.{Held, held}

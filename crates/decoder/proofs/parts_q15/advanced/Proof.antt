@@ -5,8 +5,8 @@ use mir.Syntax.{w64}
 use mir.Facts.{toZ-ofZ}
 use Rattle.rounding.proofs.Lin.{back}
 use Rattle.pll.specs.State.{Pll}
-use Rattle.steps.specs.Arithmetic.{limited}
-use Rattle.steps.specs.Formats.{q15}
+use Rattle.decoder.specs.Machine.{limited}
+use Rattle.decoder.specs.Formats.{q15}
 use Rattle.pll.specs.Records.{pllQ15}
 use Rattle.pll.proofs.Fit.{limit}
 use Rattle.decoder.proofs.Steps.{next-is}

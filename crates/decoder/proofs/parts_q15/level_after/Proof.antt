@@ -4,7 +4,7 @@ use mir.Syntax.{w64}
 use mir.Val.{SFits}
 use mir.Facts.{toZ-ofZ}
 use Rattle.numbers.specs.Integers.{roundShiftOf}
-use Rattle.steps.specs.Formats.{levelQ15}
+use Rattle.decoder.specs.Formats.{levelQ15}
 use Rattle.decoder.proofs.Level.{d-fits, m-fits, next-fits}
 use Rattle.decoder.proofs.parts_q15.level_after.Statement.{statement}
 use Rattle.decoder.proofs.parts_q15.level_after.Tie as tie

@@ -6,8 +6,8 @@ use lib.Signed.{ltZ}
 use mir.Syntax.{w64}
 use mir.Val.{toZ}
 use mir.Facts.{toZ-ofZ}
-use Rattle.steps.specs.Arithmetic.{limited}
-use Rattle.steps.specs.Formats.{q15}
+use Rattle.decoder.specs.Machine.{limited}
+use Rattle.decoder.specs.Formats.{q15}
 use Rattle.pll.proofs.Ranges.{minus-fits, minus-held}
 use Rattle.decoder.proofs.parts_q15.within.Statement.{statement}
 use Rattle.decoder.proofs.parts_q15.within.Tie as tie

@@ -6,7 +6,7 @@ use borrow.Author.Needs.{needs}
 use lib.ListN.{length}
 use mir.Syntax.{w16}
 use Rattle.rounding.proofs.Lin.{back}
-use Rattle.steps.specs.Formats.{q15}
+use Rattle.decoder.specs.Formats.{q15}
 use Rattle.pll.specs.Records.{pllQ15}
 use Rattle.decoder.proofs.Loops.{going-start, going-end}
 use Rattle.decoder.proofs.Kept.{GoingFit, turn}

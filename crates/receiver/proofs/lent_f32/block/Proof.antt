@@ -44,7 +44,7 @@ use denote.Triple.Walked.{says, Stays, stay-ref, stay-none-slice, gave-slice, wa
 use denote.Exit.{yes}
 use Rattle.blocks.specs.Answer.{says as told}
 use Rattle.decoder.specs.Machine.{Blocked, blockOf}
-use Rattle.steps.specs.Formats.{f32 as arithmetic}
+use Rattle.decoder.specs.Formats.{f32 as arithmetic}
 use Rattle.pll.specs.Records.{pllF32}
 use Rattle.pll.specs.declared.pll_f32.StereoPllF32.{StereoPllF32}
 use Rattle.decoder.specs.declared.parts_f32.ReplyF32.{ReplyF32}

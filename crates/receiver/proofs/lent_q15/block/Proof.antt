@@ -44,7 +44,7 @@ use denote.Triple.Walked.{says, Stays, stay-ref, stay-none-slice, gave-slice, wa
 use denote.Exit.{yes}
 use Rattle.blocks.specs.Answer.{says as told}
 use Rattle.decoder.specs.Machine.{Blocked, blockOf}
-use Rattle.steps.specs.Formats.{q15 as arithmetic}
+use Rattle.decoder.specs.Formats.{q15 as arithmetic}
 use Rattle.pll.specs.Records.{pllQ15}
 use Rattle.pll.specs.declared.pll_q15.StereoPllQ15.{StereoPllQ15}
 use Rattle.decoder.specs.declared.parts_q15.ReplyQ15.{ReplyQ15}

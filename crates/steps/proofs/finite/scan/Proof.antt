@@ -4,7 +4,7 @@ use Prim.Native.Nat.{_≤_, _-_}
 use native.Mathlib.Omega.{arith}
 use mathlib.Core.Bool.{_&&_}
 use lib.ListN.{length, drop}
-use Rattle.steps.specs.Formats.{allFinite}
+use Rattle.steps.specs.Rules.{allFinite}
 use Rattle.steps.proofs.Scan.{scan-next, scan-end}
 use Rattle.steps.proofs.finite.scan.Statement.{statement}
 use Rattle.steps.proofs.finite.scan.Tie as tie

@@ -1,5 +1,5 @@
 use borrow.Author.Needs.{needs}
-use Rattle.steps.specs.Formats.{gatherF32}
+use Rattle.steps.specs.Rules.{gatherF32}
 use Rattle.steps.proofs.in_f32.gathered.Statement.{statement}
 use Rattle.steps.proofs.in_f32.gathered.Tie as tie
 

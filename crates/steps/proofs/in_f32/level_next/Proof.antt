@@ -1,5 +1,5 @@
 use borrow.Author.Needs.{needs}
-use Rattle.steps.specs.Formats.{levelF32}
+use Rattle.steps.specs.Rules.{levelF32}
 use Rattle.steps.proofs.in_f32.level_next.Statement.{statement}
 use Rattle.steps.proofs.in_f32.level_next.Tie as tie
 

@@ -3,13 +3,12 @@ use mathlib.Core.Bool.{Bool, true, false, cond}
 use lib.IntN.{ℤ}
 use lib.Signed.{ltZ, leZ}
 use mir.Facts.{toZ-ofZ}
-use Rattle.steps.specs.Arithmetic.{decide}
-use Rattle.steps.specs.Formats.{q15}
+use Rattle.steps.specs.Rules.{decideQ15}
 use Rattle.steps.proofs.in_q15.decided.Statement.{statement}
 use Rattle.steps.proofs.in_q15.decided.Tie as tie
 
 -- L, N and F are what the machine holds of the level and its two thresholds
-by-tests : {level on off L N F : ℤ} {x y : Bool} (was : Bool) → L ≡ level → N ≡ on → F ≡ off → leZ N L ≡ x → ltZ L F ≡ y → cond x true (cond y false was) ≡ decide q15 level on off was
+by-tests : {level on off L N F : ℤ} {x y : Bool} (was : Bool) → L ≡ level → N ≡ on → F ≡ off → leZ N L ≡ x → ltZ L F ≡ y → cond x true (cond y false was) ≡ decideQ15 level on off was
 by-tests was l n f p q = rw (← l, ← n, ← f, p, q)
 
 returns : tie.Need-returns
