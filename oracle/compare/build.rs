@@ -1,4 +1,4 @@
-//! Links the static libraries that `rt staticlib` writes of numbers_c, stereo_c and decoder_c.
+//! Links the static libraries that `rt staticlib` writes of c_numbers, c_stereo and c_decoder.
 
 use std::env;
 use std::path::PathBuf;
@@ -7,7 +7,7 @@ fn main() {
     let here = PathBuf::from(env::var("CARGO_MANIFEST_DIR").expect("cargo sets it"));
     let folder = here.join("../../target/staticlib");
     println!("cargo:rustc-link-search=native={}", folder.display());
-    for name in ["numbers_c", "stereo_c", "decoder_c"] {
+    for name in ["c_numbers", "c_stereo", "c_decoder"] {
         let library = folder.join(format!("lib{name}.a"));
         println!("cargo:rerun-if-changed={}", library.display());
         if !library.is_file() {

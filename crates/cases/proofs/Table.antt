@@ -7,8 +7,8 @@ use Rattle.floats.specs.Floats.{wholeOf}
 use Rattle.numbers.specs.Scaled.{scaledOf}
 use Rattle.phase.specs.Lookup.{betweenQ15, cosQ15, cosF32}
 use Rattle.phase.specs.Correction.{correctionOf}
-use Rattle.stereo.specs.Matrix.{leftQ15, rightQ15}
-use Rattle.multiplex.specs.Multiplex.{multiplexOf}
+use Rattle.matrix.specs.Matrix.{leftQ15, rightQ15}
+use Rattle.encoder.specs.Multiplex.{multiplexOf}
 use Rattle.decoder.specs.Machine.{nextOf, differenceOf}
 use Rattle.decoder.specs.Formats.{levelQ15}
 use Rattle.cases.specs.Cases.{Table, cases}

@@ -8,9 +8,9 @@ use lib.IntN.{ℤ, pos, negsuc}
 use lib.Ieee.{Float, nan, inf, fin}
 use Rattle.phase.specs.Lookup.{betweenQ15}
 use Rattle.phase.specs.Correction.{correctionOf}
-use Rattle.stereo.specs.Matrix.{leftQ15, rightQ15}
-use Rattle.multiplex.specs.Multiplex.{multiplexOf}
-use Rattle.pll.specs.State.{Pll}
+use Rattle.matrix.specs.Matrix.{leftQ15, rightQ15}
+use Rattle.encoder.specs.Multiplex.{multiplexOf}
+use Rattle.decoder_record.specs.State.{Pll}
 use Rattle.decoder.specs.Machine.{nextOf, differenceOf}
 use Rattle.decoder.specs.Formats.{q15}
 

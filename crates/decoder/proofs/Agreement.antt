@@ -5,8 +5,8 @@ use mathlib.Core.Bool.{true, false}
 use mathlib.Core.List.{List, [], _∷_, map}
 use contract.Lifetimes.{Lfts}
 use denote.Ref.{RefT}
-use Rattle.blocks.specs.Answer.{Said, accepted}
-use Rattle.pll.specs.State.{Pll, enabledOf, resetOf}
+use Rattle.answers.specs.Answer.{Said, accepted}
+use Rattle.decoder_record.specs.State.{Pll, enabledOf, resetOf}
 use Rattle.decoder.specs.Machine.{Arithmetic, Blocked, blockOf}
 use Rattle.decoder.specs.Calls.{Call, block, enable, disable, reset, done, callOf, machine, final}
 

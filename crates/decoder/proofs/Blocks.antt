@@ -3,10 +3,10 @@ use mathlib.Core.Path.{_≡_, refl}
 use mathlib.Core.Bool.{Bool, true, false, false≢true, not, cond}
 use mathlib.Core.List.{List}
 use lib.ListN.{length}
-use Rattle.blocks.specs.Answer.{Said, accepted, turned, firstOf, accepts}
-use Rattle.blocks.proofs.Lengths.{both}
-use Rattle.blocks.proofs.Tests.{failed, passed}
-use Rattle.pll.specs.State.{Pll}
+use Rattle.answers.specs.Answer.{Said, accepted, turned, firstOf, accepts}
+use Rattle.answers.proofs.Lengths.{both}
+use Rattle.answers.proofs.Tests.{failed, passed}
+use Rattle.decoder_record.specs.State.{Pll}
 use Rattle.decoder.specs.Machine.{Arithmetic, Ran, lengthsSay, blockSays, blockOf}
 use Rattle.decoder.proofs.Loops.{turned-back, carried-out, lengths-equal}
 

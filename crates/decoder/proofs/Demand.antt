@@ -10,27 +10,27 @@ use denote.Ref.{RefT}
 use lib.Dec.{T}
 use lib.IntN.{ℤ, negℤ}
 use lib.Ieee.{Float, neg, le}
-use Rattle.blocks.specs.Answer.{says}
-use Rattle.blocks.specs.declared.answer.Answer.{Answer}
-use Rattle.pll.specs.State.{Pll}
+use Rattle.answers.specs.Answer.{says}
+use Rattle.answers.specs.declared.answer.Answer.{Answer}
+use Rattle.decoder_record.specs.State.{Pll}
 use Rattle.decoder.specs.Machine.{Arithmetic}
-use Rattle.pll.specs.Fit.{withinZ, fitQ15}
+use Rattle.decoder_record.specs.Fit.{withinZ, fitQ15}
 use Rattle.decoder.specs.Formats.{f32, q15}
-use Rattle.pll.specs.Gains.{Gains, Built, made, refused, following, commonOf, freshF32, newF32Of, freshQ15, allHold, guarded, alive, buildQ15, newQ15Of}
-use Rattle.pll.specs.Records.{pllF32, saysF32, pllQ15, saysQ15}
+use Rattle.decoder_record.specs.Gains.{Gains, Built, made, refused, following, commonOf, freshF32, newF32Of, freshQ15, allHold, guarded, alive, buildQ15, newQ15Of}
+use Rattle.decoder_record.specs.Records.{pllF32, saysF32, pllQ15, saysQ15}
 use Rattle.decoder.specs.Calls.{Call, machine, final, history, Locked, UnitTables, Pilots16}
-use Rattle.pll.specs.declared.pll_f32.StereoPllF32.{StereoPllF32}
-use Rattle.pll.specs.declared.pll_f32.NewF32.{NewF32}
-use Rattle.pll.specs.declared.pll_f32.NewF32.the-variants as f32-new
+use Rattle.decoder_record.specs.declared.pll_f32.StereoPllF32.{StereoPllF32}
+use Rattle.decoder_record.specs.declared.pll_f32.NewF32.{NewF32}
+use Rattle.decoder_record.specs.declared.pll_f32.NewF32.the-variants as f32-new
 use Rattle.decoder.specs.declared.parts_f32.ReplyF32.{ReplyF32}
-use Rattle.pll.specs.declared.pll_q15.StereoPllQ15.{StereoPllQ15}
-use Rattle.pll.specs.declared.pll_q15.NewQ15.{NewQ15}
-use Rattle.pll.specs.declared.pll_q15.NewQ15.the-variants as q15-new
+use Rattle.decoder_record.specs.declared.pll_q15.StereoPllQ15.{StereoPllQ15}
+use Rattle.decoder_record.specs.declared.pll_q15.NewQ15.{NewQ15}
+use Rattle.decoder_record.specs.declared.pll_q15.NewQ15.the-variants as q15-new
 use Rattle.decoder.specs.declared.parts_q15.ReplyQ15.{ReplyQ15}
 use Rattle.decoder.proofs.Agreement.{Left, Contracts, Right, Runs, lastRecord, seen, agree, last-agrees}
 use Rattle.decoder.proofs.History.{stereo-locked, locked-stereo}
-use Rattle.pll.proofs.Fit.{fitted}
-use Rattle.pll.proofs.Fresh.{made-same, made-out, fit-new}
+use Rattle.decoder_record.proofs.Fit.{fitted}
+use Rattle.decoder_record.proofs.Fresh.{made-same, made-out, fit-new}
 use Rattle.decoder.proofs.LimitF32.{bounded-new, bounded-always}
 use Rattle.decoder.proofs.LimitQ15.{fit-always}
 use Rattle.decoder.proofs.plain_f32.block.Reads as f32-plain
@@ -39,36 +39,36 @@ use Rattle.decoder.proofs.plain_f32.block.Met as f32-plain-met
 use Rattle.decoder.proofs.fast_f32.block.Reads as f32-fast
 use Rattle.decoder.proofs.fast_f32.block.Statement as f32-fast-says
 use Rattle.decoder.proofs.fast_f32.block.Met as f32-fast-met
-use Rattle.pll.proofs.pll_f32.StereoPllF32.new.Reads as f32-make
-use Rattle.pll.proofs.pll_f32.StereoPllF32.new.Statement as f32-make-says
-use Rattle.pll.proofs.pll_f32.StereoPllF32.new.Met as f32-make-met
-use Rattle.pll.proofs.pll_f32.StereoPllF32.enable.Reads as f32-enable
-use Rattle.pll.proofs.pll_f32.StereoPllF32.enable.Statement as f32-enable-says
-use Rattle.pll.proofs.pll_f32.StereoPllF32.enable.Met as f32-enable-met
-use Rattle.pll.proofs.pll_f32.StereoPllF32.disable.Reads as f32-disable
-use Rattle.pll.proofs.pll_f32.StereoPllF32.disable.Statement as f32-disable-says
-use Rattle.pll.proofs.pll_f32.StereoPllF32.disable.Met as f32-disable-met
-use Rattle.pll.proofs.pll_f32.StereoPllF32.reset.Reads as f32-reset
-use Rattle.pll.proofs.pll_f32.StereoPllF32.reset.Statement as f32-reset-says
-use Rattle.pll.proofs.pll_f32.StereoPllF32.reset.Met as f32-reset-met
+use Rattle.decoder_record.proofs.pll_f32.StereoPllF32.new.Reads as f32-make
+use Rattle.decoder_record.proofs.pll_f32.StereoPllF32.new.Statement as f32-make-says
+use Rattle.decoder_record.proofs.pll_f32.StereoPllF32.new.Met as f32-make-met
+use Rattle.decoder_record.proofs.pll_f32.StereoPllF32.enable.Reads as f32-enable
+use Rattle.decoder_record.proofs.pll_f32.StereoPllF32.enable.Statement as f32-enable-says
+use Rattle.decoder_record.proofs.pll_f32.StereoPllF32.enable.Met as f32-enable-met
+use Rattle.decoder_record.proofs.pll_f32.StereoPllF32.disable.Reads as f32-disable
+use Rattle.decoder_record.proofs.pll_f32.StereoPllF32.disable.Statement as f32-disable-says
+use Rattle.decoder_record.proofs.pll_f32.StereoPllF32.disable.Met as f32-disable-met
+use Rattle.decoder_record.proofs.pll_f32.StereoPllF32.reset.Reads as f32-reset
+use Rattle.decoder_record.proofs.pll_f32.StereoPllF32.reset.Statement as f32-reset-says
+use Rattle.decoder_record.proofs.pll_f32.StereoPllF32.reset.Met as f32-reset-met
 use Rattle.decoder.proofs.plain_q15.block.Reads as q15-plain
 use Rattle.decoder.proofs.plain_q15.block.Statement as q15-plain-says
 use Rattle.decoder.proofs.plain_q15.block.Met as q15-plain-met
 use Rattle.decoder.proofs.fast_q15.block.Reads as q15-fast
 use Rattle.decoder.proofs.fast_q15.block.Statement as q15-fast-says
 use Rattle.decoder.proofs.fast_q15.block.Met as q15-fast-met
-use Rattle.pll.proofs.pll_q15.StereoPllQ15.new.Reads as q15-make
-use Rattle.pll.proofs.pll_q15.StereoPllQ15.new.Statement as q15-make-says
-use Rattle.pll.proofs.pll_q15.StereoPllQ15.new.Met as q15-make-met
-use Rattle.pll.proofs.pll_q15.StereoPllQ15.enable.Reads as q15-enable
-use Rattle.pll.proofs.pll_q15.StereoPllQ15.enable.Statement as q15-enable-says
-use Rattle.pll.proofs.pll_q15.StereoPllQ15.enable.Met as q15-enable-met
-use Rattle.pll.proofs.pll_q15.StereoPllQ15.disable.Reads as q15-disable
-use Rattle.pll.proofs.pll_q15.StereoPllQ15.disable.Statement as q15-disable-says
-use Rattle.pll.proofs.pll_q15.StereoPllQ15.disable.Met as q15-disable-met
-use Rattle.pll.proofs.pll_q15.StereoPllQ15.reset.Reads as q15-reset
-use Rattle.pll.proofs.pll_q15.StereoPllQ15.reset.Statement as q15-reset-says
-use Rattle.pll.proofs.pll_q15.StereoPllQ15.reset.Met as q15-reset-met
+use Rattle.decoder_record.proofs.pll_q15.StereoPllQ15.new.Reads as q15-make
+use Rattle.decoder_record.proofs.pll_q15.StereoPllQ15.new.Statement as q15-make-says
+use Rattle.decoder_record.proofs.pll_q15.StereoPllQ15.new.Met as q15-make-met
+use Rattle.decoder_record.proofs.pll_q15.StereoPllQ15.enable.Reads as q15-enable
+use Rattle.decoder_record.proofs.pll_q15.StereoPllQ15.enable.Statement as q15-enable-says
+use Rattle.decoder_record.proofs.pll_q15.StereoPllQ15.enable.Met as q15-enable-met
+use Rattle.decoder_record.proofs.pll_q15.StereoPllQ15.disable.Reads as q15-disable
+use Rattle.decoder_record.proofs.pll_q15.StereoPllQ15.disable.Statement as q15-disable-says
+use Rattle.decoder_record.proofs.pll_q15.StereoPllQ15.disable.Met as q15-disable-met
+use Rattle.decoder_record.proofs.pll_q15.StereoPllQ15.reset.Reads as q15-reset
+use Rattle.decoder_record.proofs.pll_q15.StereoPllQ15.reset.Statement as q15-reset-says
+use Rattle.decoder_record.proofs.pll_q15.StereoPllQ15.reset.Met as q15-reset-met
 
 -- a lent output as the call leaves it
 abbrev at-exit : {A : Type 0} → RefT (List A) → List A → RefT (List A)

@@ -5,8 +5,8 @@ use mathlib.Core.Logic.{_⊎_, inl, inr}
 use mathlib.Core.Bool.{Bool, true, false, cond, false≢true}
 use mathlib.Core.List.{List, [], _∷_, _++_, append-nil}
 use lib.ListN.{length, getD}
-use Rattle.blocks.specs.Answer.{accepts}
-use Rattle.pll.specs.State.{Pll}
+use Rattle.answers.specs.Answer.{accepts}
+use Rattle.decoder_record.specs.State.{Pll}
 use Rattle.decoder.specs.Machine.{Arithmetic, decide, stereoOf, levelOf, nextOf, stateAt, blockOf}
 use Rattle.decoder.specs.Calls.{Call, block, enable, disable, reset, callOf, final, levelsIn, levelsAfter, history, NoneUnder, Locked}
 

@@ -13,10 +13,10 @@ use Rattle.rounding.proofs.Lin.{up, dn, up-neg, dn-neg, lt-no}
 use Rattle.numbers.proofs.Integers.{product-le}
 use Rattle.phase.specs.Lookup.{cosQ15, sineAt}
 use Rattle.phase.proofs.Between.{cosQ15-fits}
-use Rattle.pll.specs.State.{Pll}
-use Rattle.pll.specs.Fit.{withinZ, fitQ15}
-use Rattle.pll.proofs.Ranges.{within-in}
-use Rattle.pll.proofs.Fit.{Fit, fit-in, fitted, level-fit, room}
+use Rattle.decoder_record.specs.State.{Pll}
+use Rattle.decoder_record.specs.Fit.{withinZ, fitQ15}
+use Rattle.decoder_record.proofs.Ranges.{within-in}
+use Rattle.decoder_record.proofs.Fit.{Fit, fit-in, fitted, level-fit, room}
 use Rattle.decoder.specs.Machine.{limited, nextOf, differenceOf}
 use Rattle.decoder.specs.Formats.{q15}
 use Rattle.decoder.proofs.Level.{next-within}

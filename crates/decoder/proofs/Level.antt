@@ -12,9 +12,9 @@ use mir.Val.{SFits}
 use Rattle.rounding.proofs.Lin.{up, dn, add-law, sub-law', up-neg, dn-neg, abs-in, abs-out, abs-fits, mul-le, fit-in, shr-law}
 use Rattle.numbers.specs.Integers.{roundShiftOf}
 use Rattle.numbers.proofs.Integers.{round-is}
-use Rattle.pll.specs.Fit.{withinZ, levelLow, levelHigh, levelFit}
+use Rattle.decoder_record.specs.Fit.{withinZ, levelLow, levelHigh, levelFit}
 use Rattle.decoder.specs.Formats.{levelQ15}
-use Rattle.pll.proofs.Ranges.{and-out, within-out, within-in}
+use Rattle.decoder_record.proofs.Ranges.{and-out, within-out, within-in}
 
 -- z keeps the level's bounds
 abbrev In : ℤ → Type 0

@@ -18,16 +18,16 @@ use Rattle.rounding.proofs.Order.{le-of-not-lt, le-self, neg-real, add-real, mu
 use Rattle.floats.specs.Floats.{absOf, toFormat, inRange}
 use Rattle.numbers.specs.Flush.{flushOf, tiny}
 use Rattle.phase.specs.Lookup.{cosF32, fracF32}
-use Rattle.blocks.specs.Answer.{accepts}
-use Rattle.pll.specs.State.{Pll, enabledOf, resetOf}
+use Rattle.answers.specs.Answer.{accepts}
+use Rattle.decoder_record.specs.State.{Pll, enabledOf, resetOf}
 use Rattle.decoder.specs.Machine.{limited, errorOf, nextOf, stateAt, blockOf}
-use Rattle.steps.specs.Rules.{gatherF32}
+use Rattle.decoder_parts.specs.Rules.{gatherF32}
 use Rattle.decoder.specs.Formats.{f32}
-use Rattle.pll.specs.Gains.{Gains, Built, made, refused, following, nought, narrows, allNarrow, commonOf, freshF32, newF32Of}
+use Rattle.decoder_record.specs.Gains.{Gains, Built, made, refused, following, nought, narrows, allNarrow, commonOf, freshF32, newF32Of}
 use Rattle.decoder.specs.Calls.{Call, block, enable, disable, reset, final, unitTable, UnitTables}
-use Rattle.pll.proofs.Ranges.{and-out}
-use Rattle.pll.proofs.Scaled.{plus, round-plus}
-use Rattle.pll.proofs.Fresh.{Sound, sound, all-narrow, made-same}
+use Rattle.decoder_record.proofs.Ranges.{and-out}
+use Rattle.decoder_record.proofs.Scaled.{plus, round-plus}
+use Rattle.decoder_record.proofs.Fresh.{Sound, sound, all-narrow, made-same}
 
 -- ---- a lookup in a table within -1..1 is finite
 holds : {b : Bool} → b ≡ true → T b

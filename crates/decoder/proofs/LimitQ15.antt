@@ -8,15 +8,15 @@ use lib.ListN.{length, getD}
 use lib.IntN.{ℤ, pos}
 use mir.Syntax.{w16}
 use mir.Val.{SFits}
-use Rattle.blocks.specs.Answer.{accepts}
-use Rattle.pll.specs.State.{Pll, enabledOf, resetOf}
+use Rattle.answers.specs.Answer.{accepts}
+use Rattle.decoder_record.specs.State.{Pll, enabledOf, resetOf}
 use Rattle.decoder.specs.Machine.{stateAt, blockOf}
-use Rattle.pll.specs.Fit.{fitQ15}
+use Rattle.decoder_record.specs.Fit.{fitQ15}
 use Rattle.decoder.specs.Formats.{q15}
 use Rattle.decoder.specs.Calls.{Call, block, enable, disable, reset, final, Samples16, Pilots16}
-use Rattle.pll.proofs.Fit.{fit-in, fitted}
+use Rattle.decoder_record.proofs.Fit.{fit-in, fitted}
 use Rattle.decoder.proofs.Kept.{fit-next}
-use Rattle.pll.proofs.Fresh.{origin-within}
+use Rattle.decoder_record.proofs.Fresh.{origin-within}
 
 sample-fits : (ps : List ℤ) (i : ℕ) → Samples16 ps → SFits w16 (getD ps i (pos 0))
 sample-fits [] i h = record { sfits = lit< tt }

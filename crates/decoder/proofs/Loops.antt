@@ -7,10 +7,10 @@ use native.Mathlib.Nat.{not-suc-le-zero, le-of-suc-le-suc}
 use native.Mathlib.Numerals.{add-one}
 use native.Mathlib.Omega.{arith}
 use lib.ListN.{length, getD, set}
-use Rattle.blocks.specs.Answer.{Said, accepts, firstOf, tableRule, inputRule, outputRule}
-use Rattle.blocks.proofs.Samples.{Filled, filled-start, filled-next, filled-end}
-use Rattle.blocks.proofs.Lengths.{both, length-is}
-use Rattle.pll.specs.State.{Pll}
+use Rattle.answers.specs.Answer.{Said, accepts, firstOf, tableRule, inputRule, outputRule}
+use Rattle.answers.proofs.Samples.{Filled, filled-start, filled-next, filled-end}
+use Rattle.answers.proofs.Lengths.{both, length-is}
+use Rattle.decoder_record.specs.State.{Pll}
 use Rattle.decoder.specs.Machine.{Arithmetic, nextOf, differenceOf, stateAt, Ran, lengthsSay, blockSays, blockOf}
 
 -- an element that is there does not turn on what stands for one that is not

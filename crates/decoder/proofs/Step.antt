@@ -11,7 +11,7 @@ use Rattle.numbers.specs.Integers.{sat16Of, roundShiftOf}
 use Rattle.numbers.proofs.Integers.{product-le}
 use Rattle.phase.specs.Lookup.{sineAt, cosQ15}
 use Rattle.phase.proofs.Between.{cosQ15-fits}
-use Rattle.pll.specs.State.{Pll}
+use Rattle.decoder_record.specs.State.{Pll}
 use Rattle.decoder.specs.Machine.{nextOf, differenceOf}
 use Rattle.decoder.specs.Formats.{q15}
 

@@ -4,7 +4,7 @@ use mathlib.Core.Path.{_≡_, _∙_}
 use mathlib.Core.Bool.{Bool, _&&_, cond}
 use mathlib.Core.List.{List}
 use Rattle.phase.specs.Lookup.{sineAt}
-use Rattle.pll.specs.State.{Pll, movedTo}
+use Rattle.decoder_record.specs.State.{Pll, movedTo}
 use Rattle.decoder.specs.Machine.{Arithmetic, decide, limited, errorOf, levelOf, nextOf, differenceOf}
 
 -- the numbers that a step works out for the pilot p in the state d

@@ -8,19 +8,19 @@ use lib.ListN.{length}
 use lib.IntN.{ℤ, pos, negsuc}
 use lib.Ieee.{Float, fin, ofBits, toSigned, add, mul, div, lt, le, eq}
 use contract.Lifetimes.{Lfts}
-use Rattle.blocks.specs.Answer.{Said, says, accepted, turned, firstOf, lengthRule}
-use Rattle.blocks.specs.declared.answer.Answer.{Answer}
-use Rattle.blocks.specs.declared.answer.Answer.the-variants.{Accepted, Unfit, Table, Input, Output}
-use Rattle.pll.specs.State.{Pll, enabledOf, resetOf}
+use Rattle.answers.specs.Answer.{Said, says, accepted, turned, firstOf, lengthRule}
+use Rattle.answers.specs.declared.answer.Answer.{Answer}
+use Rattle.answers.specs.declared.answer.Answer.the-variants.{Accepted, Unfit, Table, Input, Output}
+use Rattle.decoder_record.specs.State.{Pll, enabledOf, resetOf}
 use Rattle.decoder.specs.Machine.{Arithmetic, Blocked, lengthsSay, blockSays, blockOf}
 use Rattle.rounding.specs.Cut.{restOf, cutBy}
 use Rattle.floats.specs.Floats.{wholeOf, toFormat}
 use Rattle.numbers.specs.Scaled.{scaledOf}
 use Rattle.decoder.specs.Formats.{f32, q15}
-use Rattle.pll.specs.Gains.{Gains, made, gainsOf, commonOf, freshF32, freshQ15, buildQ15, newF32Of, newQ15Of}
+use Rattle.decoder_record.specs.Gains.{Gains, made, gainsOf, commonOf, freshF32, freshQ15, buildQ15, newF32Of, newQ15Of}
 use Rattle.decoder.specs.Calls.{Call, block, enable, disable, reset}
-use Rattle.pll.specs.declared.pll_f32.StereoPllF32.{StereoPllF32}
-use Rattle.pll.specs.declared.pll_q15.StereoPllQ15.{StereoPllQ15}
+use Rattle.decoder_record.specs.declared.pll_f32.StereoPllF32.{StereoPllF32}
+use Rattle.decoder_record.specs.declared.pll_q15.StereoPllQ15.{StereoPllQ15}
 use Rattle.decoder.specs.declared.parts_f32.ReplyF32.{ReplyF32}
 use Rattle.decoder.specs.declared.parts_q15.ReplyQ15.{ReplyQ15}
 use Rattle.decoder.proofs.Agreement.{Left, Contracts, Runs, lent, set}

@@ -9,8 +9,8 @@ use lib.Ieee.{Float, fin}
 use mir.Syntax.{w16}
 use mir.Val.{SFits}
 use Rattle.floats.specs.Floats.{inRange}
-use Rattle.blocks.specs.Answer.{accepted, accepts}
-use Rattle.pll.specs.State.{Pll, enabledOf, resetOf}
+use Rattle.answers.specs.Answer.{accepted, accepts}
+use Rattle.decoder_record.specs.State.{Pll, enabledOf, resetOf}
 use Rattle.decoder.specs.Machine.{Arithmetic, stateAt, Blocked, blockOf}
 use Rattle.decoder.specs.Formats.{f32}
 

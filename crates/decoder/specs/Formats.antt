@@ -8,8 +8,8 @@ use lib.Ieee.Scale.{finite}
 use Rattle.numbers.specs.Integers.{sat16Of, roundShiftOf, modZ}
 use Rattle.phase.specs.Lookup.{cosF32, cosQ15}
 use Rattle.phase.specs.Correction.{correctionOf}
-use Rattle.pll.specs.Fit.{fitQ15}
-use Rattle.steps.specs.Rules.{reachesF32, reachesQ15, levelF32, gatherF32}
+use Rattle.decoder_record.specs.Fit.{fitQ15}
+use Rattle.decoder_parts.specs.Rules.{reachesF32, reachesQ15, levelF32, gatherF32}
 use Rattle.decoder.specs.Machine.{Arithmetic}
 
 -- f32: every record is taken

@@ -1,14 +1,14 @@
--- Document 01's plain machine, over the format: "The plain machine, one sample", steps 1 to 7, and a whole block. It knows nothing of the program. The rules of steps 4 and 6 are in crates/steps/specs/Rules.antt, with the parts of the code that follow them. Definitions only.
+-- Document 01's plain machine, over the format: "The plain machine, one sample", steps 1 to 7, and a whole block. It knows nothing of the program. The rules of steps 4 and 6 are in crates/decoder_parts/specs/Rules.antt, with the parts of the code that follow them. Definitions only.
 use Prim.Native.Nat.{ℕ, zero, suc, _+_, _%_, _^_}
 use mathlib.Core.Bool.{Bool, _&&_, cond}
 use mathlib.Core.List.{List}
 use mathlib.Core.Path.{_≡_}
 use lib.ListN.{length, getD}
 use Rattle.phase.specs.Lookup.{sineAt}
-use Rattle.blocks.specs.Answer.{Said, accepted, turned, firstOf, tableRule, inputRule, outputRule, kept}
-use Rattle.blocks.specs.Samples.{samples}
-use Rattle.pll.specs.State.{Pll, movedTo}
-use Rattle.steps.specs.Rules.{decideBy, limitedBy}
+use Rattle.answers.specs.Answer.{Said, accepted, turned, firstOf, tableRule, inputRule, outputRule, kept}
+use Rattle.answers.specs.Samples.{samples}
+use Rattle.decoder_record.specs.State.{Pll, movedTo}
+use Rattle.decoder_parts.specs.Rules.{decideBy, limitedBy}
 
 -- what the steps say of one format's numbers; specs/Formats.antt has the two
 pub record Arithmetic (A : Type 0) : Type 0 where

@@ -1,11 +1,11 @@
 // The answer of a decoder's block, by its lengths and by whether the record is fit.
-use blocks::answer::Answer;
-use blocks::answer::table_rule;
-use blocks::answer::then_input;
-use blocks::answer::then_output;
+use answers::answer::Answer;
+use answers::answer::table_rule;
+use answers::answer::then_input;
+use answers::answer::then_output;
 ghost use mathlib.Core.Path.{_≡_};
 ghost use mathlib.Core.Bool.{cond};
-ghost use Rattle.blocks.specs.Answer.{says, accepted, turned, firstOf};
+ghost use Rattle.answers.specs.Answer.{says, accepted, turned, firstOf};
 ghost use Rattle.decoder.specs.Machine.{lengthsSay};
 
 // The causes 9, 10 and 11 in order; an f32 block has no other.

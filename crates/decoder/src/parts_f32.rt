@@ -1,12 +1,12 @@
 // What the f32 loops share.
-use blocks::answer::Answer;
-use pll::pll_f32::StereoPllF32;
-use steps::turn::moved;
+use answers::answer::Answer;
+use decoder_record::pll_f32::StereoPllF32;
+use decoder_parts::turn::moved;
 ghost use mathlib.Core.Path.{_≡_};
 ghost use Prim.Native.Nat.{_+_, _%_, _^_};
 ghost use lib.ListN.{length};
-ghost use Rattle.pll.specs.State.{movedTo};
-ghost use Rattle.pll.specs.Records.{pllF32};
+ghost use Rattle.decoder_record.specs.State.{movedTo};
+ghost use Rattle.decoder_record.specs.Records.{pllF32};
 
 // A decoder after a sample, and the sample's difference output.
 pub struct StepF32 {

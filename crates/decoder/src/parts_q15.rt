@@ -1,11 +1,11 @@
 // What the Q15 loops share. Some parts ask for the bounds that a fit record gives; no sum or product
 // then passes an i64.
-use blocks::answer::Answer;
+use answers::answer::Answer;
 use numbers::fixed::low32;
 use numbers::fixed::round_shift;
-use pll::pll_q15::StereoPllQ15;
-use steps::in_q15::decided;
-use steps::turn::moved;
+use decoder_record::pll_q15::StereoPllQ15;
+use decoder_parts::in_q15::decided;
+use decoder_parts::turn::moved;
 ghost use mathlib.Core.Path.{_≡_};
 ghost use lib.ListN.{length};
 ghost use mathlib.Core.Bool.{true};
@@ -16,9 +16,9 @@ ghost use lib.Signed.{nonNeg};
 ghost use lib.Dec.{T};
 ghost use Rattle.numbers.specs.Integers.{roundShiftOf};
 ghost use Rattle.decoder.specs.Machine.{limited, errorOf, levelOf, nextOf};
-ghost use Rattle.pll.specs.Fit.{levelFit, fitQ15};
+ghost use Rattle.decoder_record.specs.Fit.{levelFit, fitQ15};
 ghost use Rattle.decoder.specs.Formats.{q15, levelQ15};
-ghost use Rattle.pll.specs.Records.{pllQ15};
+ghost use Rattle.decoder_record.specs.Records.{pllQ15};
 
 // A decoder after a sample, and the sample's difference output.
 pub struct StepQ15 {

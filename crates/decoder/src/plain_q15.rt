@@ -5,26 +5,26 @@ use crate::parts_q15::StepQ15;
 use crate::parts_q15::advanced;
 use crate::parts_q15::level_after;
 use crate::parts_q15::whole;
-use blocks::answer::is_accepted;
+use answers::answer::is_accepted;
 use numbers::fixed::q15_mul;
 use numbers::fixed::q15_product;
 use numbers::fixed::round_shift;
 use phase::lookup::cos_q15;
 use phase::lookup::sine_at;
 use phase::lookup::sine_at_twice;
-use pll::pll_q15::StereoPllQ15;
-use pll::pll_q15::is_fit;
-use steps::in_q15::selected;
+use decoder_record::pll_q15::StereoPllQ15;
+use decoder_record::pll_q15::is_fit;
+use decoder_parts::in_q15::selected;
 ghost use mathlib.Core.Path.{_≡_};
 ghost use mathlib.Core.Bool.{true};
 ghost use Prim.Native.Nat.{_≤_, _^_};
 ghost use lib.ListN.{length};
 ghost use lib.IntN.{natAbs};
-ghost use Rattle.blocks.specs.Answer.{says};
+ghost use Rattle.answers.specs.Answer.{says};
 ghost use Rattle.decoder.specs.Machine.{nextOf, differenceOf, blockOf, Ran};
-ghost use Rattle.pll.specs.Fit.{levelFit, fitQ15};
+ghost use Rattle.decoder_record.specs.Fit.{levelFit, fitQ15};
 ghost use Rattle.decoder.specs.Formats.{q15, levelQ15};
-ghost use Rattle.pll.specs.Records.{pllQ15};
+ghost use Rattle.decoder_record.specs.Records.{pllQ15};
 
 // The level after a sample.
 fn level_next(beta: i64, level: i64, q: i64) -> i64

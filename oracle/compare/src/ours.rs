@@ -1,4 +1,4 @@
-//! The answers of crates/numbers_c, over words as in `numbers_oracle::answers`.
+//! The answers of crates/c_numbers, over words as in `numbers_oracle::answers`.
 
 use numbers_oracle::answers::{f32_of, f64_of, word_f32, word_f64, word_i16};
 

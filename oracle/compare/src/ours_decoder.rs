@@ -1,4 +1,4 @@
-//! The functions of crates/decoder_c, over slices. C takes a slice as a pointer and a length, and
+//! The functions of crates/c_decoder, over slices. C takes a slice as a pointer and a length, and
 //! the record as three arrays.
 
 use decoder_oracle::answers::{Arguments, Block, Call, Format, Outcome, field_words, words};

@@ -1,4 +1,4 @@
-//! The functions of crates/stereo_c, over slices. C takes a slice as a pointer and a length.
+//! The functions of crates/c_stereo, over slices. C takes a slice as a pointer and a length.
 
 use stereo_oracle::answers::{Fields, Said};
 

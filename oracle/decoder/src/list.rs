@@ -1,4 +1,4 @@
-//! Writes the list that crates/decoder_replay replays: the original's answers to constructions and
+//! Writes the list that crates/test_decoder_replay replays: the original's answers to constructions and
 //! to the calls of sessions.
 //!
 //!     list-decoder PATH
@@ -104,7 +104,7 @@ impl Listed for Q15 {
     }
 }
 
-/// crates/decoder_replay/src/words12.rt has the same.
+/// crates/test_decoder_replay/src/words12.rt has the same.
 fn digest(words: impl IntoIterator<Item = u64>, first: u64) -> u64 {
     const P: u64 = 4294967291;
     words

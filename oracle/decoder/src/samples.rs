@@ -1,4 +1,4 @@
-//! Tables and samples from a word, by the rules that crates/samples has too: above 32 bits the kind,
+//! Tables and samples from a word, by the rules that crates/test_samples has too: above 32 bits the kind,
 //! below them the seed or the value.
 
 use sdrk_core::num::q15_from_f64;

@@ -1,4 +1,4 @@
-//! Tables and blocks from a seed, by the formula that crates/samples has for kind 0.
+//! Tables and blocks from a seed, by the formula that crates/test_samples has for kind 0.
 
 use crate::answers::TABLE;
 

@@ -4,10 +4,10 @@ use Prim.Native.Nat.{_-_}
 use native.Mathlib.Omega.{arith}
 use lib.ListN.{length}
 use lib.Ieee.{nan}
-use Rattle.pll.specs.Gains.{nought}
+use Rattle.decoder_record.specs.Gains.{nought}
 use Rattle.decoder.specs.Formats.{f32}
-use Rattle.pll.specs.Records.{pllF32}
-use Rattle.steps.proofs.Scan.{each-finite}
+use Rattle.decoder_record.specs.Records.{pllF32}
+use Rattle.decoder_parts.proofs.Scan.{each-finite}
 use Rattle.decoder.proofs.Loops.{Going, going-start, going-next, going-end, any-default}
 use Rattle.decoder.proofs.fast_f32.run_clean.Statement.{statement}
 use Rattle.decoder.proofs.fast_f32.run_clean.Tie as tie

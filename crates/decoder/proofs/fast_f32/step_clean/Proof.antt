@@ -2,7 +2,7 @@ use borrow.Author.Needs.{needs}
 use mathlib.Core.Path.{refl, _∙_}
 use lib.Ieee.{binary32, mul}
 use Rattle.decoder.specs.Formats.{f32}
-use Rattle.pll.specs.Records.{pllF32}
+use Rattle.decoder_record.specs.Records.{pllF32}
 use Rattle.decoder.proofs.Steps.{Parts, next-is, difference-is}
 use Rattle.decoder.proofs.fast_f32.step_clean.Statement.{statement}
 use Rattle.decoder.proofs.fast_f32.step_clean.Tie as tie

@@ -7,12 +7,12 @@ use mir.Val.{toZ, ofZ}
 use mir.Facts.{toZ-ofZ}
 use Rattle.rounding.proofs.Lin.{back}
 use Rattle.phase.specs.Lookup.{sineAt, cosQ15}
-use Rattle.pll.specs.State.{Pll}
+use Rattle.decoder_record.specs.State.{Pll}
 use Rattle.decoder.specs.Machine.{levelOf}
 use Rattle.decoder.specs.Formats.{q15}
-use Rattle.pll.specs.Records.{pllQ15}
-use Rattle.pll.proofs.Fit.{level-fit}
-use Rattle.pll.proofs.Held.{Held, held}
+use Rattle.decoder_record.specs.Records.{pllQ15}
+use Rattle.decoder_record.proofs.Fit.{level-fit}
+use Rattle.decoder_record.proofs.Held.{Held, held}
 use Rattle.decoder.proofs.Step.{lookup-le, product-small, difference-is}
 use Rattle.decoder.proofs.fast_q15.step.Statement.{statement}
 use Rattle.decoder.proofs.fast_q15.step.Tie as tie

@@ -1,4 +1,4 @@
-use Rattle.blocks.proofs.Whole.{uncut, counted}
+use Rattle.answers.proofs.Whole.{uncut, counted}
 use Rattle.decoder.proofs.parts_f32.whole.Statement.{statement}
 use Rattle.decoder.proofs.parts_f32.whole.Tie as tie
 

@@ -4,14 +4,14 @@ use lib.IntN.{ℤ, _+ℤ_, _*ℤ_, +ℤ-comm}
 use mir.Syntax.{w64}
 use mir.Facts.{toZ-ofZ}
 use Rattle.rounding.proofs.Lin.{back}
-use Rattle.pll.specs.State.{Pll}
+use Rattle.decoder_record.specs.State.{Pll}
 use Rattle.decoder.specs.Machine.{limited}
 use Rattle.decoder.specs.Formats.{q15}
-use Rattle.pll.specs.Records.{pllQ15}
-use Rattle.pll.proofs.Fit.{limit}
+use Rattle.decoder_record.specs.Records.{pllQ15}
+use Rattle.decoder_record.proofs.Fit.{limit}
 use Rattle.decoder.proofs.Steps.{next-is}
 use Rattle.decoder.proofs.Kept.{ki-room, kp-room}
-use Rattle.pll.proofs.Held.{Held, held}
+use Rattle.decoder_record.proofs.Held.{Held, held}
 use Rattle.decoder.proofs.parts_q15.advanced.Statement.{statement}
 use Rattle.decoder.proofs.parts_q15.advanced.Tie as tie
 

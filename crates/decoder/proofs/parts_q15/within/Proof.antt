@@ -8,7 +8,7 @@ use mir.Val.{toZ}
 use mir.Facts.{toZ-ofZ}
 use Rattle.decoder.specs.Machine.{limited}
 use Rattle.decoder.specs.Formats.{q15}
-use Rattle.pll.proofs.Ranges.{minus-fits, minus-held}
+use Rattle.decoder_record.proofs.Ranges.{minus-fits, minus-held}
 use Rattle.decoder.proofs.parts_q15.within.Statement.{statement}
 use Rattle.decoder.proofs.parts_q15.within.Tie as tie
 

@@ -1,8 +1,8 @@
 use borrow.Author.Needs.{needs}
 use mathlib.Core.Path.{refl}
-use Rattle.blocks.specs.Answer.{says}
+use Rattle.answers.specs.Answer.{says}
 use Rattle.decoder.specs.Formats.{f32}
-use Rattle.pll.specs.Records.{pllF32}
+use Rattle.decoder_record.specs.Records.{pllF32}
 use Rattle.decoder.proofs.Blocks.{refused, full-table, runs, ran}
 use Rattle.decoder.proofs.plain_f32.block.Statement.{statement}
 use Rattle.decoder.proofs.plain_f32.block.Tie as tie

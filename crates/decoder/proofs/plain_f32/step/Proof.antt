@@ -1,7 +1,7 @@
 use borrow.Author.Needs.{needs}
 use mathlib.Core.Path.{refl, _∙_}
 use Rattle.decoder.specs.Formats.{f32}
-use Rattle.pll.specs.Records.{pllF32}
+use Rattle.decoder_record.specs.Records.{pllF32}
 use Rattle.decoder.proofs.Steps.{Parts, next-is, difference-is}
 use Rattle.decoder.proofs.plain_f32.step.Statement.{statement}
 use Rattle.decoder.proofs.plain_f32.step.Tie as tie

@@ -1,7 +1,7 @@
 use borrow.Author.Needs.{needs}
-use Rattle.blocks.specs.Answer.{says}
+use Rattle.answers.specs.Answer.{says}
 use Rattle.decoder.specs.Formats.{q15}
-use Rattle.pll.specs.Records.{pllQ15}
+use Rattle.decoder_record.specs.Records.{pllQ15}
 use Rattle.decoder.proofs.Blocks.{refused, full-table, runs, ran}
 use Rattle.decoder.proofs.plain_q15.block.Statement.{statement}
 use Rattle.decoder.proofs.plain_q15.block.Tie as tie

@@ -7,7 +7,7 @@ use lib.ListN.{length}
 use mir.Syntax.{w16}
 use Rattle.rounding.proofs.Lin.{back}
 use Rattle.decoder.specs.Formats.{q15}
-use Rattle.pll.specs.Records.{pllQ15}
+use Rattle.decoder_record.specs.Records.{pllQ15}
 use Rattle.decoder.proofs.Loops.{going-start, going-end}
 use Rattle.decoder.proofs.Kept.{GoingFit, turn}
 use Rattle.decoder.proofs.plain_q15.run.Statement.{statement}

@@ -1,0 +1,23 @@
+-- `c_decoder::calls_f32::pescrondilu_reset_f32` meets its contract: the method's own equation, between the record taken and the one put back. Assumes nothing.
+use borrow.Author.Needs.{needs}
+use Rattle.decoder_record.specs.State.{resetOf}
+use Rattle.decoder_record.specs.Gains.{nought}
+use Rattle.c_decoder.proofs.Arrays.{set-in-c}
+use Rattle.c_decoder.proofs.calls_f32.pescrondilu_reset_f32.Statement.{statement}
+use Rattle.c_decoder.proofs.calls_f32.pescrondilu_reset_f32.Tie as tie
+
+taken-requires : tie.Need-taken-requires
+taken-requires c κs = search needs
+
+reset-requires : tie.Need-reset-requires
+reset-requires c κs = search needs
+
+put-requires : tie.Need-put-requires
+put-requires c κs = search needs
+
+returns : tie.Need-returns
+returns c = let s = c .before .before .before .before in set-in-c (resetOf nought) (c .put .ensures) (s .reset .ensures) (s .before .taken .ensures)
+
+pub pescrondilu-reset-f32-spec : {M : Type 1} → statement M
+pescrondilu-reset-f32-spec =
+    tie.close (tie.spec taken-requires reset-requires put-requires returns)

@@ -1,0 +1,23 @@
+-- `c_decoder::calls_q15::pescrondilu_disable_q15` meets its contract: the method's own equation, between the record taken and the one put back. Assumes nothing.
+use borrow.Author.Needs.{needs}
+use mathlib.Core.Bool.{false}
+use Rattle.decoder_record.specs.State.{enabledOf}
+use Rattle.c_decoder.proofs.Arrays.{set-in-c}
+use Rattle.c_decoder.proofs.calls_q15.pescrondilu_disable_q15.Statement.{statement}
+use Rattle.c_decoder.proofs.calls_q15.pescrondilu_disable_q15.Tie as tie
+
+taken-requires : tie.Need-taken-requires
+taken-requires c κs = search needs
+
+disable-requires : tie.Need-disable-requires
+disable-requires c κs = search needs
+
+put-requires : tie.Need-put-requires
+put-requires c κs = search needs
+
+returns : tie.Need-returns
+returns c = let s = c .before .before .before .before in set-in-c (enabledOf false) (c .put .ensures) (s .disable .ensures) (s .before .taken .ensures)
+
+pub pescrondilu-disable-q15-spec : {M : Type 1} → statement M
+pescrondilu-disable-q15-spec =
+    tie.close (tie.spec taken-requires disable-requires put-requires returns)

@@ -1,0 +1,62 @@
+-- The multiplex: one sample, and the encoders' blocks. Sources: ITU-R BS.450 (the multiplex: M, S on the subcarrier at twice the pilot's phase, the pilot; RDS at three times); document 01, "`StereoEncode`", "Calls turned back". Definitions only.
+use Prim.Native.Nat.{ℕ, _+_, _*_, _%_, _^_}
+use mathlib.Core.Bool.{false}
+use mathlib.Core.List.{List}
+use lib.ListN.{length, getD}
+use lib.IntN.{negsuc}
+use lib.Ieee.{Float, nan, fin, binary32, add, sub, mul}
+use Rattle.phase.specs.Lookup.{sineAt, cosF32}
+use Rattle.answers.specs.Answer.{Said, firstOf, tableRule, inputRule, outputRule, kept}
+use Rattle.answers.specs.Samples.{samples}
+use Rattle.encoder_record.specs.Encode.{encodeAt, rdsAt}
+use Rattle.encoder_record.specs.declared.encode.StereoEncode.{StereoEncode}
+use Rattle.encoder_record.specs.declared.rds.StereoEncodeRds.{StereoEncodeRds}
+
+-- ---- one sample, at the pilot's phase p
+-- sum and difference: m and d are the sum and the difference of left and right, rounded, then halved; d is on the subcarrier s2
+abbrev pub stereoOf : Float → Float → Float → Float → Float
+stereoOf main left right s2 =
+    let half = fin false 1 (negsuc 0) in
+    let m = mul binary32 (add binary32 left right) half in
+    let d = mul binary32 (sub binary32 left right) half in
+    add binary32 (mul binary32 main m) (mul binary32 (mul binary32 main d) s2)
+
+-- plus the pilot; the products come first, then the sums from left to right
+unfoldable pub multiplexOf : List Float → Float → Float → ℕ → Float → Float → Float
+multiplexOf t main pilot p left right =
+    add binary32 (stereoOf main left right (cosF32 t (sineAt 2 p))) (mul binary32 pilot (cosF32 t (sineAt 1 p)))
+
+-- with RDS: plus (level times b) times s3
+unfoldable pub multiplexRdsOf : List Float → Float → Float → Float → ℕ → Float → Float → Float → Float
+multiplexRdsOf t main pilot level p left right b =
+    add binary32 (multiplexOf t main pilot p left right) (mul binary32 (mul binary32 level b) (cosF32 t (sineAt 3 p)))
+
+-- ---- blocks: the pilot's phase before sample i
+abbrev pub phaseAt : StereoEncode → ℕ → ℕ
+phaseAt e i = (e .nco .phase + i * e .nco .inc) % 2 ^ 32
+
+-- what a block answers, its output, and the next record
+pub record Encoded (E : Type 0) : Type 0 where
+  pub said : Said
+  pub output : List Float
+  pub encoder : E
+
+abbrev pub encodeOf : StereoEncode → List Float → List Float → List Float → List Float → Encoded StereoEncode
+encodeOf e table left right output =
+    let n = length left in
+    let said = firstOf (firstOf (tableRule (length table)) (inputRule n (length right))) (outputRule n (length output)) in
+    record {
+      said = said;
+      output = kept said (samples n (λ i. multiplexOf table (e .main) (e .pilot) (phaseAt e i) (getD left i nan) (getD right i nan))) output;
+      encoder = kept said (encodeAt e (phaseAt e n)) e;
+    }
+
+abbrev pub encodeRdsOf : StereoEncodeRds → List Float → List Float → List Float → List Float → List Float → Encoded StereoEncodeRds
+encodeRdsOf e table left right rds output =
+    let n = length left in
+    let said = firstOf (firstOf (firstOf (tableRule (length table)) (inputRule n (length right))) (inputRule n (length rds))) (outputRule n (length output)) in
+    record {
+      said = said;
+      output = kept said (samples n (λ i. multiplexRdsOf table (e .enc .main) (e .enc .pilot) (e .rds) (phaseAt (e .enc) i) (getD left i nan) (getD right i nan) (getD rds i nan))) output;
+      encoder = kept said (rdsAt e (phaseAt (e .enc) n)) e;
+    }

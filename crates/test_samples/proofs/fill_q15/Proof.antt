@@ -1,0 +1,64 @@
+-- `test_samples::fill_q15` meets its contract. The measure is how many samples are left. Assumes nothing.
+use borrow.Author.Needs.{needs}
+use mir.Syntax.{w16}
+use Rattle.rounding.proofs.Lin.{back}
+use Prim.Native.Nat.{_-_, _≤_}
+use mathlib.Core.Path.{refl, _∙_}
+use native.Mathlib.Omega.{arith}
+use lib.ListN.{length}
+use Rattle.answers.proofs.Samples.{Filled, filled-start, filled-next, filled-end}
+use Rattle.test_samples.specs.Samples.{sampleQ15Of}
+use Rattle.test_samples.proofs.fill_q15.Statement.{statement}
+use Rattle.test_samples.proofs.fill_q15.Tie as tie
+
+abbrev Inv-loop : tie.InvT-loop
+Inv-loop spec out₀ i₀ out i = (i ≤ length out₀) × Filled (length out₀) (λ k. sampleQ15Of spec k) i out
+
+abbrev μ-loop : tie.MeasureT-loop
+μ-loop spec out₀ i₀ out i = length out₀ - i
+
+loop-holds : tie.Need-loop-holds Inv-loop μ-loop
+loop-holds c = (omega arith, filled-start refl)
+
+sample-q15-requires : tie.Need-sample-q15-requires Inv-loop μ-loop
+sample-q15-requires c κs = search needs
+
+mul-t4 : tie.Need-mul-t4 Inv-loop μ-loop
+mul-t4 c = search needs
+
+slice-set-from-out : tie.Need-slice-set-from-out Inv-loop μ-loop
+slice-set-from-out c = search needs
+
+add-i : tie.Need-add-i Inv-loop μ-loop
+add-i c = omega arith
+
+loop-less : tie.Need-loop-less Inv-loop μ-loop
+loop-less c = omega arith
+
+loop-again : tie.Need-loop-again Inv-loop μ-loop
+loop-again c =
+    let w = c .before .before .loop .inv in
+    let s = c .sample-q15 in
+    (omega (arith, w .1 .size), filled-next (w .1) (omega (arith, w .1 .size)) (back w16 (s .result) (s .ok) ∙ s .ensures))
+
+same-length : tie.Need-same-length Inv-loop μ-loop
+same-length c = c .before .loop .inv .1 .size
+
+returns : tie.Need-returns Inv-loop μ-loop
+returns c = let w = c .before .loop .inv in filled-end (w .1) (w .0) (omega (arith, w .1 .size))
+
+pub fill-q15-spec : {M : Type 1} → statement M
+fill-q15-spec =
+    tie.close
+    (tie.spec
+    Inv-loop
+    μ-loop
+    loop-holds
+    sample-q15-requires
+    mul-t4
+    slice-set-from-out
+    add-i
+    loop-less
+    loop-again
+    same-length
+    returns)
