@@ -3,6 +3,7 @@
 
 use std::hint::black_box;
 
+use ours::decoder::{self, Decoder, Sample, Way};
 use sdrk_core::error::Error;
 use sdrk_core::kernels::stereo::{StereoPll, StereoPllState, hand};
 use sdrk_core::probe::{self, Fields};
@@ -11,59 +12,7 @@ use sdrk_core::timing::Rate;
 use sdrk_core::types::{C32, CQ15, Q15, RealSample};
 use sdrk_core::{Fallback, Reference};
 
-use crate::{Said, Staggered, ratio, wave, wave_q15};
-
-type Block<V, S> = unsafe extern "C" fn(
-    values: &mut [V; 8],
-    phases: &mut [u32; 2],
-    switches: &mut [bool; 2],
-    table: *const S,
-    table_n: usize,
-    mpx: *const S,
-    mpx_n: usize,
-    pilot: *const S,
-    pilot_n: usize,
-    sum: *mut S,
-    sum_n: usize,
-    difference: *mut S,
-    difference_n: usize,
-    said: &mut Said,
-);
-
-macro_rules! declare {
-    ($name:ident, $value:ty, $sample:ty) => {
-        unsafe extern "C" {
-            fn $name(
-                values: &mut [$value; 8],
-                phases: &mut [u32; 2],
-                switches: &mut [bool; 2],
-                table: *const $sample,
-                table_n: usize,
-                mpx: *const $sample,
-                mpx_n: usize,
-                pilot: *const $sample,
-                pilot_n: usize,
-                sum: *mut $sample,
-                sum_n: usize,
-                difference: *mut $sample,
-                difference_n: usize,
-                said: &mut Said,
-            );
-        }
-    };
-}
-
-declare!(pescrondilu_plain_f32, f32, f32);
-declare!(pescrondilu_fast_f32, f32, f32);
-declare!(pescrondilu_plain_q15, i64, i16);
-declare!(pescrondilu_fast_q15, i64, i16);
-
-/// Our block and the original's that it is compared with.
-#[derive(Clone, Copy, PartialEq)]
-enum Way {
-    Plain,
-    Fast,
-}
+use crate::{ACCEPTED, Staggered, ratio, wave, wave_q15};
 
 /// What the pilot is.
 #[derive(Clone, Copy, PartialEq)]
@@ -76,8 +25,7 @@ enum Pilot {
 /// What the timing needs of a format.
 trait Timed: RealSample {
     type Value: Copy + PartialEq + std::fmt::Debug;
-    type Raw: Copy + PartialEq + std::fmt::Debug + 'static;
-    fn ours(way: Way) -> Block<Self::Value, Self::Raw>;
+    type Raw: Sample<Value = Self::Value> + PartialEq + std::fmt::Debug + 'static;
     fn original(
         way: Way,
         state: &mut StereoPllState<Self>,
@@ -103,13 +51,6 @@ const QUARTER: u32 = 1 << 30;
 impl Timed for f32 {
     type Value = f32;
     type Raw = f32;
-
-    fn ours(way: Way) -> Block<f32, f32> {
-        match way {
-            Way::Plain => pescrondilu_plain_f32,
-            Way::Fast => pescrondilu_fast_f32,
-        }
-    }
 
     fn original(
         way: Way,
@@ -169,13 +110,6 @@ impl Timed for f32 {
 impl Timed for Q15 {
     type Value = i64;
     type Raw = i16;
-
-    fn ours(way: Way) -> Block<i64, i16> {
-        match way {
-            Way::Plain => pescrondilu_plain_q15,
-            Way::Fast => pescrondilu_fast_q15,
-        }
-    }
 
     fn original(
         way: Way,
@@ -245,8 +179,20 @@ fn block<F: Timed>(way: Way, pilot: Pilot, n: usize) -> f64 {
     let mut state = F::in_stereo(&made.expect("accepted"));
     state.set_enabled(pilot != Pilot::Disabled);
     let f = F::fields(&state);
-    let mut values = [f.kp, f.ki, f.imax, f.beta, f.on, f.off, f.integ, f.level];
-    let (mut phases, mut switches) = ([f.step0, f.phase], [f.stereo, f.enabled]);
+    let mut ours = Decoder {
+        kp: f.kp,
+        ki: f.ki,
+        imax: f.imax,
+        beta: f.beta,
+        on: f.on,
+        off: f.off,
+        integ: f.integ,
+        level: f.level,
+        step0: f.step0,
+        phase: f.phase,
+        stereo: f.stereo as u32,
+        enabled: f.enabled as u32,
+    };
     let at = |i: usize| match pilot {
         Pilot::OneNan if i == n / 2 => F::nan(),
         _ => F::pilot(f.step0.wrapping_mul(i as u32)),
@@ -259,33 +205,14 @@ fn block<F: Timed>(way: Way, pilot: Pilot, n: usize) -> f64 {
     let their_mpx = Staggered::new(4, n, F::mpx);
     let their_pilots = Staggered::new(5, n, at);
     let mut output = Staggered::new(6, n, |_| F::zero());
-    let call = F::ours(way);
     let answer = ratio(
         n,
         || {
             let (x, p) = (black_box(mpx.get()), black_box(pilots.get()));
             let (s, d) = (sum.get_mut(), difference.get_mut());
-            let mut said = [9; 3];
-            // SAFETY: a pointer and a length are those of one slice; the slices do not overlap.
-            unsafe {
-                call(
-                    &mut values,
-                    &mut phases,
-                    &mut switches,
-                    table.as_ptr(),
-                    table.len(),
-                    x.as_ptr(),
-                    x.len(),
-                    p.as_ptr(),
-                    p.len(),
-                    s.as_mut_ptr(),
-                    s.len(),
-                    d.as_mut_ptr(),
-                    d.len(),
-                    &mut said,
-                );
-            }
-            assert_eq!(black_box(said), [0; 3]);
+            let reply = decoder::block(way, ours, table, x, p, s, d);
+            ours = reply.decoder;
+            assert_eq!(black_box(reply.answer), ACCEPTED);
         },
         || {
             let (x, p) = (black_box(their_mpx.get()), black_box(their_pilots.get()));
@@ -294,9 +221,10 @@ fn block<F: Timed>(way: Way, pilot: Pilot, n: usize) -> f64 {
         },
     );
     let f = F::fields(&state);
-    assert_eq!(phases, [f.step0, f.phase]);
-    assert_eq!(switches, [f.stereo, f.enabled]);
-    assert_eq!((values[6], values[7]), (f.integ, f.level));
+    assert_eq!((ours.step0, ours.phase), (f.step0, f.phase));
+    let switches = (f.stereo as u32, f.enabled as u32);
+    assert_eq!((ours.stereo, ours.enabled), switches);
+    assert_eq!((ours.integ, ours.level), (f.integ, f.level));
     assert!(f.stereo, "the decision is stereo while the time is taken");
     let theirs = output.get().iter().map(|c| F::parts(*c));
     let ours = sum.get().iter().zip(difference.get());

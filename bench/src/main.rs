@@ -7,73 +7,21 @@ mod decoder;
 use std::hint::black_box;
 use std::time::Instant;
 
+use ours::Code;
+use ours::decoder::matrix;
+use ours::encoder::{Nco, StereoEncode, StereoEncodeRds, encode_block, encode_rds_block};
 use sdrk_core::Fallback;
-use sdrk_core::kernels::stereo::{StereoEncode, StereoEncodeRds, StereoMatrix};
+use sdrk_core::kernels::stereo::{StereoEncode as _, StereoEncodeRds as _, StereoMatrix};
 use sdrk_core::probe;
 use sdrk_core::tables::COS_F32;
 use sdrk_core::types::{C32, CQ15, Q15};
 
-type Said = [usize; 3];
-
-unsafe extern "C" {
-    fn pescrondilu_matrix_f32(
-        sum: *const f32,
-        sum_n: usize,
-        difference: *const f32,
-        difference_n: usize,
-        left: *mut f32,
-        left_n: usize,
-        right: *mut f32,
-        right_n: usize,
-        said: &mut Said,
-    );
-    fn pescrondilu_matrix_q15(
-        sum: *const i16,
-        sum_n: usize,
-        difference: *const i16,
-        difference_n: usize,
-        left: *mut i16,
-        left_n: usize,
-        right: *mut i16,
-        right_n: usize,
-        said: &mut Said,
-    );
-    fn pescrondilu_encode(
-        phase: u32,
-        inc: u32,
-        main: f32,
-        pilot: f32,
-        table: *const f32,
-        table_n: usize,
-        left: *const f32,
-        left_n: usize,
-        right: *const f32,
-        right_n: usize,
-        output: *mut f32,
-        output_n: usize,
-        said: &mut Said,
-        next: &mut u32,
-    );
-    fn pescrondilu_encode_rds(
-        phase: u32,
-        inc: u32,
-        main: f32,
-        pilot: f32,
-        level: f32,
-        table: *const f32,
-        table_n: usize,
-        left: *const f32,
-        left_n: usize,
-        right: *const f32,
-        right_n: usize,
-        rds: *const f32,
-        rds_n: usize,
-        output: *mut f32,
-        output_n: usize,
-        said: &mut Said,
-        next: &mut u32,
-    );
-}
+/// What a block answers that was carried out.
+const ACCEPTED: Code = Code {
+    code: 0,
+    expected: 0,
+    got: 0,
+};
 
 /// Runs of each side; the median of them counts.
 const RUNS: usize = 401;
@@ -156,22 +104,8 @@ fn matrix_f32(n: usize) -> f64 {
         || {
             let (s, d) = (black_box(sum.get()), black_box(difference.get()));
             let (l, r) = (left.get_mut(), right.get_mut());
-            let mut said = [9; 3];
-            // SAFETY: a pointer and a length are those of one slice; the slices do not overlap.
-            unsafe {
-                pescrondilu_matrix_f32(
-                    s.as_ptr(),
-                    s.len(),
-                    d.as_ptr(),
-                    d.len(),
-                    l.as_mut_ptr(),
-                    l.len(),
-                    r.as_mut_ptr(),
-                    r.len(),
-                    &mut said,
-                );
-            }
-            assert_eq!(black_box(said), [0; 3]);
+            let answer = matrix(s, d, l, r);
+            assert_eq!(black_box(answer), ACCEPTED);
         },
         || {
             let done = Fallback.stereo_matrix(black_box(input.get()), output.get_mut());
@@ -199,22 +133,8 @@ fn matrix_q15(n: usize) -> f64 {
         || {
             let (s, d) = (black_box(sum.get()), black_box(difference.get()));
             let (l, r) = (left.get_mut(), right.get_mut());
-            let mut said = [9; 3];
-            // SAFETY: as above.
-            unsafe {
-                pescrondilu_matrix_q15(
-                    s.as_ptr(),
-                    s.len(),
-                    d.as_ptr(),
-                    d.len(),
-                    l.as_mut_ptr(),
-                    l.len(),
-                    r.as_mut_ptr(),
-                    r.len(),
-                    &mut said,
-                );
-            }
-            assert_eq!(black_box(said), [0; 3]);
+            let answer = matrix(s, d, l, r);
+            assert_eq!(black_box(answer), ACCEPTED);
         },
         || {
             let done = Fallback.stereo_matrix(black_box(input.get()), output.get_mut());
@@ -242,7 +162,14 @@ fn encoder(n: usize, with_rds: bool) -> f64 {
     let mut output = Staggered::new(3, n, |_| 0.0f32);
     let input = Staggered::new(4, n, |i| C32::new(wave(i), wave(i + 11)));
     let mut theirs = Staggered::new(5, n, |_| 0.0f32);
-    let mut phase = 0u32;
+    let mut ours = StereoEncodeRds {
+        enc: StereoEncode {
+            nco: Nco { phase: 0, inc: INC },
+            main: MAIN,
+            pilot: PILOT,
+        },
+        rds: LEVEL,
+    };
     let mut state = probe::encoder_rds(probe::encoder(0, INC, MAIN, PILOT), LEVEL);
     let mut plain = probe::encoder(0, INC, MAIN, PILOT);
     let answer = ratio(
@@ -250,50 +177,16 @@ fn encoder(n: usize, with_rds: bool) -> f64 {
         || {
             let (l, r) = (black_box(left.get()), black_box(right.get()));
             let (b, o) = (black_box(rds.get()), output.get_mut());
-            let (mut said, mut next) = ([9; 3], 0);
-            // SAFETY: as above.
-            unsafe {
-                if with_rds {
-                    pescrondilu_encode_rds(
-                        phase,
-                        INC,
-                        MAIN,
-                        PILOT,
-                        LEVEL,
-                        table.as_ptr(),
-                        table.len(),
-                        l.as_ptr(),
-                        l.len(),
-                        r.as_ptr(),
-                        r.len(),
-                        b.as_ptr(),
-                        b.len(),
-                        o.as_mut_ptr(),
-                        o.len(),
-                        &mut said,
-                        &mut next,
-                    );
-                } else {
-                    pescrondilu_encode(
-                        phase,
-                        INC,
-                        MAIN,
-                        PILOT,
-                        table.as_ptr(),
-                        table.len(),
-                        l.as_ptr(),
-                        l.len(),
-                        r.as_ptr(),
-                        r.len(),
-                        o.as_mut_ptr(),
-                        o.len(),
-                        &mut said,
-                        &mut next,
-                    );
-                }
-            }
-            assert_eq!(black_box(said), [0; 3]);
-            phase = next;
+            let answer = if with_rds {
+                let reply = encode_rds_block(ours, table, l, r, b, o);
+                ours = reply.encoder;
+                reply.answer
+            } else {
+                let reply = encode_block(ours.enc, table, l, r, o);
+                ours.enc = reply.encoder;
+                reply.answer
+            };
+            assert_eq!(black_box(answer), ACCEPTED);
         },
         || {
             let i = black_box(input.get());
@@ -308,6 +201,12 @@ fn encoder(n: usize, with_rds: bool) -> f64 {
     );
     let bits = |x: &[f32]| x.iter().map(|y| y.to_bits()).collect::<Vec<_>>();
     assert_eq!(bits(output.get()), bits(theirs.get()));
+    let phase = if with_rds {
+        state.phase()
+    } else {
+        plain.phase()
+    };
+    assert_eq!(ours.enc.nco.phase, phase);
     answer
 }
 

@@ -1,4 +1,5 @@
 pub mod Samples
-pub mod Lengths
+pub mod Causes
 pub mod Tests
 pub mod Whole
+pub mod Free

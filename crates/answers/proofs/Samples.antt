@@ -1,4 +1,5 @@
--- A loop that writes its i-th output, over the element type: once all are written, the output is the definition's list. Assumes nothing.
+-- A loop that writes its i-th output, over the element type: once all are written, the output is the
+-- definition's list. Assumes nothing.
 use Prim.Native.Nat.{ℕ, _+_, _≤_, _<_}
 use mathlib.Core.Path.{_≡_, refl, sym, ap, _∙_}
 use mathlib.Core.List.{List}

@@ -1,4 +1,5 @@
--- A list cut at its own length is the list; stated over the length, since cutting at 4097 is too long to compute. Assumes nothing.
+-- A list cut at its own length is the list; stated over the length, since cutting at 4097 is too long to
+-- compute. Assumes nothing.
 use Prim.Native.Nat.{ℕ}
 use mathlib.Core.Path.{_≡_, sym, ap, _∙_}
 use mathlib.Core.List.{List}

@@ -1,6 +1,7 @@
-// The decoder under C names, for a program in Rust or C to call. Its record is three arrays that
-// the caller lends and a call changes: values (kp, ki, imax, beta, on, off, integ, level), phases
-// (step0, phase) and switches (stereo, enabled). A slice is a pointer and then a length; answers
-// are numbers, as specs/Code.antt defines them.
-mod calls_f32;
-mod calls_q15;
+// Both decoders and both matrices under C names, for a program in Rust or C to call. A decoder's
+// record goes in and out by value, a slice is a pointer and then a length, and answers are numbers,
+// as specs/Coded.antt defines them.
+mod in_f32;
+mod in_q15;
+mod matrices;
+mod shared;

@@ -1,8 +1,11 @@
-// The number helpers under C names, for a program in Rust or C to call. Each function has the
-// contract of the one that it calls.
+// The number helpers, the lookups and the corrections under C names, so that they can be compared
+// with the Rust by themselves. Each function has the contract of the one that it calls. A slice is a
+// pointer and then a length.
+use numbers::scale::Q14;
+use phase::lookup::Pair;
 ghost use mathlib.Core.Path.{_≡_};
 ghost use Prim.Native.Nat.{_^_};
-ghost use lib.IntN.{_*ℤ_};
+ghost use lib.IntN.{pos, _*ℤ_};
 ghost use lib.Ieee as Ieee;
 ghost use lib.Ieee.{binary32, binary64};
 ghost use lib.Ieee.Scale.{finite};
@@ -11,7 +14,16 @@ ghost use Rattle.numbers.specs.Integers.{q15MulOf, q15AddOf, q15SubOf};
 ghost use Rattle.floats.specs.Floats.{floorOf, halfEvenOf, toFormat};
 ghost use Rattle.numbers.specs.Flush.{flushOf};
 ghost use Rattle.numbers.specs.Scaled.{scaledOf, q15FromOf, q14FromOf};
-ghost use Rattle.c_numbers.specs.Code.{codeOf};
+ghost use Rattle.phase.specs.Lookup.{cosF32, pairF32, cosQ15};
+ghost use Rattle.phase.specs.Correction.{correctionOf};
+ghost use Rattle.answers.specs.Coded.{codedNew};
+
+// 0 and the value, or 100 and the cause's number, and 0.
+#[repr(C)]
+pub struct CodedQ14 {
+    pub code: u32,
+    pub value: i16,
+}
 
 #[no_mangle]
 pub extern "C" fn pescrondilu_sat16(x: i64) -> i16
@@ -153,14 +165,57 @@ pub extern "C" fn pescrondilu_q15_from_f64(x: f64) -> i16
     numbers::scale::q15_from_f64(x)
 }
 
-// An enum has no form in C: a value is itself, and a refusal 32768 and its number, which no i16
-// reaches.
 #[no_mangle]
-pub extern "C" fn pescrondilu_q14_from_f64(x: f64) -> i32
-    ensures { λ r. ⌜ r ≡ codeOf (q14FromOf x) ⌝ }
+pub extern "C" fn pescrondilu_q14_from_f64(x: f64) -> CodedQ14
+    ensures { λ r. ⌜ record { code = r .code; value = r .value } ≡ codedNew (pos 0) (q14FromOf x) ⌝ }
 {
     match numbers::scale::q14_from_f64(x) {
-        numbers::scale::Q14::Value(v) => v as i32,
-        numbers::scale::Q14::Outside => 32786,
+        Q14::Value(value) => CodedQ14 { code: 0, value },
+        Q14::Outside => CodedQ14 {
+            code: 118,
+            value: 0,
+        },
     }
+}
+
+#[no_mangle]
+pub extern "C" fn pescrondilu_cos_f32(table: &[f32], p: u32) -> f32
+    ensures { λ r. ⌜ r ≡ cosF32 (now (table .entry)) p ⌝ }
+{
+    phase::lookup::cos_f32(table, p)
+}
+
+#[no_mangle]
+pub extern "C" fn pescrondilu_interp_f32_pair(table: &[f32], p: u32) -> Pair
+    ensures { λ r. ⌜ r ≡ pairF32 (now (table .entry)) p ⌝ }
+{
+    phase::lookup::interp_f32_pair(table, p)
+}
+
+#[no_mangle]
+pub extern "C" fn pescrondilu_cos_q15(table: &[i16], p: u32) -> i16
+    ensures { λ r. ⌜ r ≡ cosQ15 (now (table .entry)) p ⌝ }
+{
+    phase::lookup::cos_q15(table, p)
+}
+
+#[no_mangle]
+pub extern "C" fn pescrondilu_interp_q15(table: &[i16], p: u32) -> i32
+    ensures { λ r. ⌜ r ≡ cosQ15 (now (table .entry)) p ⌝ }
+{
+    phase::lookup::interp_q15(table, p)
+}
+
+#[no_mangle]
+pub extern "C" fn pescrondilu_correction_plain(f: f32) -> u32
+    ensures { λ r. ⌜ r ≡ correctionOf f ⌝ }
+{
+    phase::correction::correction_plain(f)
+}
+
+#[no_mangle]
+pub extern "C" fn pescrondilu_correction_fast(f: f32) -> u32
+    ensures { λ r. ⌜ r ≡ correctionOf f ⌝ }
+{
+    phase::correction::correction_fast(f)
 }

@@ -1,12 +1,4 @@
 pub mod Loops
 pub mod Steps
 pub mod Blocks
-pub mod Level
-pub mod Kept
-pub mod Step
-pub mod History
-pub mod Agreement
-pub mod LimitQ15
-pub mod LimitF32
-pub mod Demand
-pub mod Witness
+pub mod Free

@@ -1,17 +1,18 @@
--- A decoder's loop and block, over the format: what a turn, the end, a refusal and an accepted block have to show. Assumes nothing.
+-- A decoder's loop and block, over the format: what a turn of the loop, its end, a refusal and an accepted
+-- block have to show. Assumes nothing.
 use Prim.Native.Nat.{ℕ, zero, suc, _+_, _≤_, _<_}
-use mathlib.Core.Path.{_≡_, refl, ap, _∙_}
+use mathlib.Core.Path.{_≡_, refl, sym, ap, _∙_}
 use mathlib.Core.Bool.{true, false}
 use mathlib.Core.List.{List, [], _∷_}
 use native.Mathlib.Nat.{not-suc-le-zero, le-of-suc-le-suc}
 use native.Mathlib.Numerals.{add-one}
 use native.Mathlib.Omega.{arith}
 use lib.ListN.{length, getD, set}
-use Rattle.answers.specs.Answer.{Said, accepts, firstOf, tableRule, inputRule, outputRule}
+use Rattle.answers.specs.Answer.{Said, accepted, accepts, entries, firstCause}
 use Rattle.answers.proofs.Samples.{Filled, filled-start, filled-next, filled-end}
-use Rattle.answers.proofs.Lengths.{both, length-is}
+use Rattle.answers.proofs.Causes.{each, length-is}
 use Rattle.decoder_record.specs.State.{Pll}
-use Rattle.decoder.specs.Machine.{Arithmetic, nextOf, differenceOf, stateAt, Ran, lengthsSay, blockSays, blockOf}
+use Rattle.decoder.specs.Machine.{Arithmetic, Stepped, Blocked, stepOf, stateAt, stepAt, runOf, lengthCauses, blockSays, blockOf}
 
 -- an element that is there does not turn on what stands for one that is not
 pub any-default : {A : Type 0} (l : List A) (i : ℕ) (a b : A) → i < length l → getD l i a ≡ getD l i b
@@ -23,49 +24,46 @@ module _ {A : Type 0} (F : Arithmetic A) (t mpx pilot : List A) (d : Pll A) wher
   -- the first i samples are done, and st is the state after them
   pub record Going (i : ℕ) (sum difference : List A) (st : Pll A) : Type 0 where
     pub below : i ≤ length mpx
-    pub sums : Filled (length mpx) (λ k. getD mpx k (F .nought)) i sum
-    pub differences : Filled (length mpx) (λ k. differenceOf F t (stateAt F t pilot d k) (getD mpx k (F .nought)) (getD pilot k (F .nought))) i difference
-    pub state : st ≡ stateAt F t pilot d i
+    pub sums : Filled (length mpx) (λ k. stepAt F t mpx pilot d k .sum) i sum
+    pub differences : Filled (length mpx) (λ k. stepAt F t mpx pilot d k .difference) i difference
+    pub state : st ≡ stateAt F t mpx pilot d i
 
   pub going-start : {sum difference : List A} → length sum ≡ length mpx → length difference ≡ length mpx → Going 0 sum difference d
   unfolding stateAt
   going-start h k = record { below = omega arith; sums = filled-start h; differences = filled-start k; state = refl }
 
-  -- one turn: x, y and st' are what the step of the i-th samples gives
+  -- one more sample: x, y and st' are what the step of the i-th samples gives
   pub going-next : {i : ℕ} {sum difference : List A} {st st' : Pll A} {x p y : A} → Going i sum difference st → i < length mpx
-      → x ≡ getD mpx i (F .nought) → p ≡ getD pilot i (F .nought) → y ≡ differenceOf F t st x p → st' ≡ nextOf F t st p
+      → x ≡ getD mpx i (F .nought) → p ≡ getD pilot i (F .nought) → record { sum = x; difference = y; pll = st' } ≡ stepOf F t st x p
       → Going (i + 1) (set sum i x) (set difference i y) st'
   unfolding stateAt
-  going-next {i} {sum} {difference} {st} {st'} {x} {p} {y} g h ex ep ey es = record {
-    below = omega (arith, g .below);
-    sums = filled-next (g .sums) h ex;
-    differences = filled-next (g .differences) h (ey ∙ rw (g .state, ex, ep));
-    state = es ∙ rw (add-one i, g .state, ep);
-  }
+  going-next {i} {sum} {difference} {st} {st'} {x} {p} {y} g h ex ep e =
+      let s : record { sum = x; difference = y; pll = st' } ≡ stepAt F t mpx pilot d i = e ∙ rw (g .state, ex, ep) in
+      record {
+        below = omega (arith, g .below);
+        sums = filled-next (g .sums) h (ap (λ (z : Stepped A). z .sum) s);
+        differences = filled-next (g .differences) h (ap (λ (z : Stepped A). z .difference) s);
+        state = rw (add-one i) (ap (λ (z : Stepped A). z .pll) s);
+      }
 
-  pub going-end : {i : ℕ} {sum difference : List A} {st : Pll A} → Going i sum difference st → length mpx ≤ i → Ran F t mpx pilot d sum difference st
+  pub going-end : {i : ℕ} {sum difference : List A} {st : Pll A} → Going i sum difference st → length mpx ≤ i
+      → record { said = accepted; sum = sum; difference = difference; pll = st } ≡ runOf F d t mpx pilot
+  unfolding runOf
   going-end {i} g h =
       let e : i ≡ length mpx = omega (arith, g .below) in
-      record {
-        sums = filled-end (g .sums) (g .below) h;
-        differences = filled-end (g .differences) (g .below) h;
-        state = g .state ∙ ap (stateAt F t pilot d) e;
-      }
+      rw (filled-end (g .sums) (g .below) h, filled-end (g .differences) (g .below) h, g .state, e)
 
   module _ (sum difference : List A) (s : Said) (e : s ≡ blockSays F d (length t) (length mpx) (length pilot) (length sum) (length difference)) where
     pub turned-back : accepts s ≡ false → record { said = s; sum = sum; difference = difference; pll = d } ≡ blockOf F d t mpx pilot sum difference
     unfolding blockOf
     turned-back h = rw (← e, h)
 
-    pub carried-out : {sums differences : List A} {next : Pll A} → accepts s ≡ true → Ran F t mpx pilot d sums differences next
-        → record { said = s; sum = sums; difference = differences; pll = next } ≡ blockOf F d t mpx pilot sum difference
+    pub carried-out : {r : Blocked A} → accepts s ≡ true → r ≡ runOf F d t mpx pilot → r ≡ blockOf F d t mpx pilot sum difference
     unfolding blockOf
-    carried-out h r = rw (← e, h, r .sums, r .differences, r .state)
+    carried-out h k = k ∙ rw (← e, h)
 
--- an accepted block has four equal lengths, and a table of 4097 entries
-pub lengths-equal : (t n p s d : ℕ) → accepts (lengthsSay t n p s d) ≡ true → (p ≡ n) × (s ≡ n) × (d ≡ n) × (t ≡ 4097)
+-- an accepted block has four equal lengths, and a whole table
+pub lengths-equal : (t n p s d : ℕ) → accepts (firstCause (lengthCauses t n p s d)) ≡ true → (p ≡ n) × (s ≡ n) × (d ≡ n) × (t ≡ entries)
 lengths-equal t n p s d h =
-    let x = both (firstOf (firstOf (tableRule t) (inputRule n p)) (outputRule n s)) (outputRule n d) h in
-    let y = both (firstOf (tableRule t) (inputRule n p)) (outputRule n s) (x .0) in
-    let z = both (tableRule t) (inputRule n p) (y .0) in
-    (length-is p n _ refl (z .1), length-is s n _ refl (y .1), length-is d n _ refl (x .1), length-is t 4097 _ refl (z .0))
+    let x = each (lengthCauses t n p s d) h in
+    (length-is 10 n p (x .1 .0), length-is 11 n s (x .1 .1 .0), length-is 11 n d (x .1 .1 .1 .0), length-is 9 entries t (x .0))

@@ -1,3 +1,2 @@
 pub mod Machine
-pub mod Formats
-pub mod Calls
+pub mod F32

@@ -1,16 +1,17 @@
--- Document 01's plain machine, over the format: "The plain machine, one sample", steps 1 to 7, and a whole block. It knows nothing of the program. The rules of steps 4 and 6 are in crates/decoder_parts/specs/Rules.antt, with the parts of the code that follow them. Definitions only.
-use Prim.Native.Nat.{ℕ, zero, suc, _+_, _%_, _^_}
+-- Document 01's plain machine, over the format: "The plain machine, one sample", steps 1 to 7, and a whole
+-- block. It knows nothing of the program. The rules of steps 4, 6 and 7 are in
+-- crates/decoder_parts/specs/Rules.antt, with the parts of the code that follow them. Definitions only.
+use Prim.Native.Nat.{ℕ, zero, suc}
 use mathlib.Core.Bool.{Bool, _&&_, cond}
-use mathlib.Core.List.{List}
-use mathlib.Core.Path.{_≡_}
+use mathlib.Core.List.{List, [], _∷_}
 use lib.ListN.{length, getD}
 use Rattle.phase.specs.Lookup.{sineAt}
-use Rattle.answers.specs.Answer.{Said, accepted, turned, firstOf, tableRule, inputRule, outputRule, kept}
+use Rattle.answers.specs.Answer.{Said, accepted, rule, tableRule, inputRule, outputRule, firstCause, kept}
 use Rattle.answers.specs.Samples.{samples}
 use Rattle.decoder_record.specs.State.{Pll, movedTo}
-use Rattle.decoder_parts.specs.Rules.{decideBy, limitedBy}
+use Rattle.decoder_parts.specs.Rules.{decideBy, limitedBy, phaseAfter}
 
--- what the steps say of one format's numbers; specs/Formats.antt has the two
+-- what the steps say of one format's numbers; specs/F32.antt and crates/decoder_q15/specs/Q15.antt have the two
 pub record Arithmetic (A : Type 0) : Type 0 where
   -- 1: the cosine from the table at a phase
   pub lookup : List A → ℕ → A
@@ -26,13 +27,26 @@ pub record Arithmetic (A : Type 0) : Type 0 where
   -- 5: x times s2
   pub demodulate : A → A → A
   -- 6: integ plus ki times e, from the three of them, and the other sign
-  pub gather : A → A → A → A
+  pub accumulate : A → A → A → A
   pub minus : A → A
   -- 7: kp times e plus integ, and the correction
   pub frequency : A → A → A → A
   pub correction : A → ℕ
   -- whether a block takes the record (cause 0)
   pub fit : Pll A → Bool
+
+-- what a sample leaves: its two outputs and the state
+pub record Stepped (A : Type 0) : Type 0 where
+  pub sum : A
+  pub difference : A
+  pub pll : Pll A
+
+-- what a block answers and leaves: its two outputs and the state
+pub record Blocked (A : Type 0) : Type 0 where
+  pub said : Said
+  pub sum : List A
+  pub difference : List A
+  pub pll : Pll A
 
 module _ {A : Type 0} (F : Arithmetic A) where
   -- 4: at or above on: stereo; else below off: mono; else kept
@@ -43,69 +57,69 @@ module _ {A : Type 0} (F : Arithmetic A) where
   abbrev pub limited : A → A → A
   limited = limitedBy (F .under) (F .minus)
 
-  -- 1: c is the table at the phase, s at `sineAt 1` of it, s2 at `sineAt 2`; each stands where it is used
-  -- 2: e is p times c where the pilot takes part, else 0
-  abbrev pub errorOf : List A → Pll A → A → A
-  errorOf t d p = cond (F .usable p) (F .times p (F .lookup t (d .phase))) (F .nought)
+  -- the last two steps, from the error e; the level and the decision are those of steps 3 and 4
+  unfoldable pub advancedBy : Pll A → A → A → Bool → Pll A
+  advancedBy d e level stereo =
+      let g = d .gains in
+      let m = d .moving in
+      -- 6
+      let integ = limited (g .imax) (F .accumulate (m .integ) (g .ki) e) in
+      -- 7
+      let f = F .frequency (g .kp) e integ in
+      let phase = phaseAfter (m .phase) (g .step0) (F .correction f) in
+      movedTo d (record { phase = phase; integ = integ; level = level; stereo = stereo })
 
-  -- 3: the level, with q = p times s; skipped where the pilot takes no part
-  abbrev pub levelOf : List A → Pll A → A → A
-  levelOf t d p = cond (F .usable p) (F .levelNext (d .beta) (d .level) (F .times p (F .lookup t (sineAt 1 (d .phase))))) (d .level)
+  -- one sample: mpx x, pilot p
+  unfoldable pub stepOf : List A → Pll A → A → A → Stepped A
+  stepOf t d x p =
+      let g = d .gains in
+      let m = d .moving in
+      -- 1
+      let c = F .lookup t (m .phase) in
+      let s = F .lookup t (sineAt 1 (m .phase)) in
+      let s2 = F .lookup t (sineAt 2 (m .phase)) in
+      -- 2: a pilot sample that takes no part gives e = 0 and skips 3 and 4
+      let e = cond (F .usable p) (F .times p c) (F .nought) in
+      let q = F .times p s in
+      -- 3
+      let level = cond (F .usable p) (F .levelNext (g .beta) (m .level) q) (m .level) in
+      -- 4
+      let stereo = cond (F .usable p) (decide level (g .on) (g .off) (m .stereo)) (m .stereo) in
+      -- 5
+      let difference = cond (stereo && d .enabled) (F .demodulate x s2) (F .nought) in
+      record { sum = x; difference = difference; pll = advancedBy d e level stereo }
 
-  -- 4: the decision, skipped there too
-  abbrev pub stereoOf : List A → Pll A → A → Bool
-  stereoOf t d p = cond (F .usable p) (decide (levelOf t d p) (d .on) (d .off) (d .stereo)) (d .stereo)
+  -- ---- a block's samples in order: the state before sample i, and what sample i leaves
+  unfoldable pub stateAt : List A → List A → List A → Pll A → ℕ → Pll A
+  stateAt t mpx pilot d zero = d
+  stateAt t mpx pilot d (suc i) =
+      stepOf t (stateAt t mpx pilot d i) (getD mpx i (F .nought)) (getD pilot i (F .nought)) .pll
 
-  -- 5: the difference; the sum is x
-  unfoldable pub differenceOf : List A → Pll A → A → A → A
-  differenceOf t d x p = cond (stereoOf t d p && d .enabled) (F .demodulate x (F .lookup t (sineAt 2 (d .phase)))) (F .nought)
+  abbrev pub stepAt : List A → List A → List A → Pll A → ℕ → Stepped A
+  stepAt t mpx pilot d i = stepOf t (stateAt t mpx pilot d i) (getD mpx i (F .nought)) (getD pilot i (F .nought))
 
-  -- 6: the integrator, limited
-  abbrev pub integOf : List A → Pll A → A → A
-  integOf t d p = limited (d .imax) (F .gather (d .integ) (d .ki) (errorOf t d p))
-
-  -- 7: the phase, and the state after the sample
-  unfoldable pub nextOf : List A → Pll A → A → Pll A
-  nextOf t d p =
-      let e = errorOf t d p in
-      let integ = integOf t d p in
-      movedTo d ((d .phase + d .step0 + F .correction (F .frequency (d .kp) e integ)) % 2 ^ 32) integ (levelOf t d p) (stereoOf t d p)
-
-  -- the state before sample i of a block, whose pilot is ps
-  unfoldable pub stateAt : List A → List A → Pll A → ℕ → Pll A
-  stateAt t ps d zero = d
-  stateAt t ps d (suc i) = nextOf t (stateAt t ps d i) (getD ps i (F .nought))
-
--- what a block answers and leaves: the outputs and the state
-pub record Blocked (A : Type 0) : Type 0 where
-  pub said : Said
-  pub sum : List A
-  pub difference : List A
-  pub pll : Pll A
-
--- what the samples of an accepted block leave in the outputs and the state
-module _ {A : Type 0} (F : Arithmetic A) where
-  pub record Ran (t mpx pilot : List A) (d : Pll A) (sum difference : List A) (next : Pll A) : Type 0 where
-    pub sums : sum ≡ samples (length mpx) (λ i. getD mpx i (F .nought))
-    pub differences : difference ≡ samples (length mpx) (λ i. differenceOf F t (stateAt F t pilot d i) (getD mpx i (F .nought)) (getD pilot i (F .nought)))
-    pub state : next ≡ stateAt F t pilot d (length mpx)
+  unfoldable pub runOf : Pll A → List A → List A → List A → Blocked A
+  runOf d t mpx pilot =
+      let n = length mpx in
+      record {
+        said = accepted;
+        sum = samples n (λ i. stepAt t mpx pilot d i .sum);
+        difference = samples n (λ i. stepAt t mpx pilot d i .difference);
+        pll = stateAt t mpx pilot d n;
+      }
 
 -- the causes 9, 10, 11 in order, by the lengths
-abbrev pub lengthsSay : ℕ → ℕ → ℕ → ℕ → ℕ → Said
-lengthsSay table mpx pilot sum difference = firstOf (firstOf (firstOf (tableRule table) (inputRule mpx pilot)) (outputRule mpx sum)) (outputRule mpx difference)
+abbrev pub lengthCauses : ℕ → ℕ → ℕ → ℕ → ℕ → List Said
+lengthCauses table mpx pilot sum difference =
+    tableRule table ∷ inputRule mpx pilot ∷ outputRule mpx sum ∷ outputRule mpx difference ∷ []
 
--- a block: cause 0, then those; otherwise its samples in order
+-- a block: cause 0, then those, and outputs and state stay; otherwise its samples in order
 module _ {A : Type 0} (F : Arithmetic A) where
   abbrev pub blockSays : Pll A → ℕ → ℕ → ℕ → ℕ → ℕ → Said
-  blockSays d table mpx pilot sum difference = firstOf (cond (F .fit d) accepted (turned 0)) (lengthsSay table mpx pilot sum difference)
+  blockSays d table mpx pilot sum difference =
+      firstCause (rule 0 (F .fit d) ∷ lengthCauses table mpx pilot sum difference)
 
   unfoldable pub blockOf : Pll A → List A → List A → List A → List A → List A → Blocked A
   blockOf d t mpx pilot sum difference =
-      let n = length mpx in
-      let said = blockSays d (length t) n (length pilot) (length sum) (length difference) in
-      record {
-        said = said;
-        sum = kept said (samples n (λ i. getD mpx i (F .nought))) sum;
-        difference = kept said (samples n (λ i. differenceOf F t (stateAt F t pilot d i) (getD mpx i (F .nought)) (getD pilot i (F .nought)))) difference;
-        pll = kept said (stateAt F t pilot d n) d;
-      }
+      let said = blockSays d (length t) (length mpx) (length pilot) (length sum) (length difference) in
+      kept said (runOf F d t mpx pilot) (record { said = said; sum = sum; difference = difference; pll = d })

@@ -1,9 +1,11 @@
--- What the parts of a sample's steps follow. Source: document 01, "The plain machine, one sample", steps 3, 4 and 6, and "The fast blocks" for the scan. Definitions only.
+-- What the parts of a sample's steps follow. Source: document 01, "The plain machine, one sample", steps 2 to
+-- 7, and "The fast blocks" for the scan. Definitions only.
+use Prim.Native.Nat.{ℕ, _+_, _%_, _^_}
 use mathlib.Core.Bool.{Bool, true, false, _&&_, cond}
 use mathlib.Core.List.{List, [], _∷_}
-use lib.IntN.{ℤ}
+use lib.IntN.{ℤ, pos}
 use lib.Signed.{ltZ, leZ}
-use lib.Ieee.{Float, binary32, add, sub, mul, le, lt, neg}
+use lib.Ieee.{Float, fin, binary32, add, sub, mul, le, lt, neg}
 use lib.Ieee.Scale.{finite}
 use Rattle.numbers.specs.Flush.{flushOf}
 
@@ -35,8 +37,30 @@ limitedF32 = limitedBy lt neg
 unfoldable pub levelF32 : Float → Float → Float → Float
 levelF32 beta level q = flushOf (add binary32 level (mul binary32 beta (sub binary32 q level)))
 
-unfoldable pub gatherF32 : Float → Float → Float → Float
-gatherF32 integ ki e = flushOf (add binary32 integ (mul binary32 ki e))
+unfoldable pub accumulateF32 : Float → Float → Float → Float
+accumulateF32 integ ki e = flushOf (add binary32 integ (mul binary32 ki e))
+
+-- 2, 3 and 4 in f32 where a pilot sample may not be finite: the error is then +0, and the level and the
+-- decision stay
+abbrev pub errorF32 : Float → Float → Float
+errorF32 p c = cond (finite p) (mul binary32 p c) (fin false 0 (pos 0))
+
+abbrev pub levelAfterF32 : Float → Float → Float → Float → Float
+levelAfterF32 p s beta level = cond (finite p) (levelF32 beta level (mul binary32 p s)) level
+
+abbrev pub stereoAfterF32 : Float → Float → Float → Float → Bool → Bool
+stereoAfterF32 p level on off was = cond (finite p) (decideF32 level on off was) was
+
+-- 5: the demodulated sample, or 0
+abbrev pub demodulatedF32 : Bool → Float → Float → Float
+demodulatedF32 on x s2 = cond on (mul binary32 x s2) (fin false 0 (pos 0))
+
+abbrev pub selectedQ15 : Bool → ℤ → ℤ
+selectedQ15 on difference = cond on difference (pos 0)
+
+-- 7: the phase gains step0 and the correction, modulo 2^32
+abbrev pub phaseAfter : ℕ → ℕ → ℕ → ℕ
+phaseAfter phase step0 correction = (phase + step0 + correction) % 2 ^ 32
 
 -- every sample of a pilot is finite
 abbrev pub allFinite : List Float → Bool

@@ -1,5 +1,5 @@
 pub mod Ranges
 pub mod Fit
 pub mod Held
-pub mod Scaled
 pub mod Fresh
+pub mod Free

@@ -1,7 +1,7 @@
 -- Tests of a range on whole numbers, as facts that `omega` reads, and back. Assumes nothing.
 use Prim.Native.Nat.{ℕ, _+_, _*_, _^_, _≤_, _<_}
 use mathlib.Core.Path.{_≡_, refl, ap, _∙_}
-use mathlib.Core.Bool.{Bool, true, false, _&&_, false≢true}
+use mathlib.Core.Bool.{true, false≢true}
 use native.Mathlib.Omega.{arith}
 use lib.Dec.{T}
 use lib.IntN.{ℤ, pos, negsuc, negℤ, natAbs, _-ℤ_, +ℤ-idl}
@@ -10,12 +10,8 @@ use mir.Syntax.{w64}
 use mir.Val.{SFits, toZ, ofZ}
 use mir.Facts.{toZ-ofZ}
 use Rattle.rounding.proofs.Lin.{up, dn, sub-law', up-neg, dn-neg, abs-in, fit-in, le-yes, le-yes-in}
+use Rattle.answers.proofs.Tests.{and-out}
 use Rattle.decoder_record.specs.Fit.{withinZ, fits64, guardOf}
-
--- both tests held
-pub and-out : (a b : Bool) → a && b ≡ true → (a ≡ true) × (b ≡ true)
-and-out true b h = (refl, h)
-and-out false b h = absurd (false≢true h)
 
 module _ (lo hi z : ℤ) where
   pub within-out : withinZ lo hi z ≡ true → (up lo + dn z ≤ up z + dn lo) × (up z + dn hi ≤ up hi + dn z)

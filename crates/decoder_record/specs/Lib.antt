@@ -1,4 +1,4 @@
 pub mod State
 pub mod Fit
-pub mod Gains
+pub mod Fresh
 pub mod Records

@@ -1,11 +1,8 @@
 -- The program's records as the machine's states, field by field, and the program's answers. Definitions only.
 use lib.IntN.{ℤ}
 use lib.Ieee.{Float}
+use Rattle.answers.specs.Answer.{Built, made, refused}
 use Rattle.decoder_record.specs.State.{Pll}
-use Rattle.decoder_record.specs.Gains.{Gains, Built, made, refused}
-use Rattle.decoder_record.specs.declared.gains.LoopGains.{LoopGains}
-use Rattle.decoder_record.specs.declared.gains.Checked.{Checked}
-use Rattle.decoder_record.specs.declared.gains.Checked.the-variants as checked
 use Rattle.decoder_record.specs.declared.pll_f32.StereoPllF32.{StereoPllF32}
 use Rattle.decoder_record.specs.declared.pll_f32.NewF32.{NewF32}
 use Rattle.decoder_record.specs.declared.pll_f32.NewF32.the-variants as newF32
@@ -13,42 +10,33 @@ use Rattle.decoder_record.specs.declared.pll_q15.StereoPllQ15.{StereoPll
 use Rattle.decoder_record.specs.declared.pll_q15.NewQ15.{NewQ15}
 use Rattle.decoder_record.specs.declared.pll_q15.NewQ15.the-variants as newQ15
 
-abbrev pub gains : LoopGains → Gains
-gains g = record { kp = g .kp; ki = g .ki; imax = g .imax; beta = g .beta; on = g .on; off = g .off; step0 = g .step0 }
-
-abbrev pub saysCommon : Checked → Built Gains
-saysCommon (checked.Good g) = made (gains g)
-saysCommon (checked.Refused n) = refused n
-
 abbrev pub pllF32 : StereoPllF32 → Pll Float
 pllF32 d = record {
-  kp = d .kp;
-  ki = d .ki;
-  imax = d .imax;
-  beta = d .beta;
-  on = d .on;
-  off = d .off;
-  step0 = d .step0;
-  phase = d .phase;
-  integ = d .integ;
-  level = d .level;
-  stereo = d .stereo;
+  gains = record {
+    kp = d .kp;
+    ki = d .ki;
+    imax = d .imax;
+    beta = d .beta;
+    on = d .on;
+    off = d .off;
+    step0 = d .step0;
+  };
+  moving = record { phase = d .phase; integ = d .integ; level = d .level; stereo = d .stereo };
   enabled = d .enabled;
 }
 
 abbrev pub pllQ15 : StereoPllQ15 → Pll ℤ
 pllQ15 d = record {
-  kp = d .kp;
-  ki = d .ki;
-  imax = d .imax;
-  beta = d .beta;
-  on = d .on;
-  off = d .off;
-  step0 = d .step0;
-  phase = d .phase;
-  integ = d .integ;
-  level = d .level;
-  stereo = d .stereo;
+  gains = record {
+    kp = d .kp;
+    ki = d .ki;
+    imax = d .imax;
+    beta = d .beta;
+    on = d .on;
+    off = d .off;
+    step0 = d .step0;
+  };
+  moving = record { phase = d .phase; integ = d .integ; level = d .level; stereo = d .stereo };
   enabled = d .enabled;
 }
 

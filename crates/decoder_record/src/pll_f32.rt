@@ -1,14 +1,16 @@
 // The f32 decoder's record: construction, the calls that only set fields, and the read-outs.
-use crate::gains::Checked;
-use crate::gains::LoopGains;
-use crate::gains::common;
+use decoder_gains::Checked;
+use decoder_gains::LoopGains;
+use decoder_gains::common;
 use floats::bits::f32_to_f64;
 use floats::bits::f64_to_f32;
 ghost use mathlib.Core.Path.{_≡_};
 ghost use mathlib.Core.Bool.{true, false};
 ghost use Rattle.decoder_record.specs.State.{enabledOf, resetOf};
-ghost use Rattle.decoder_record.specs.Gains.{nought, freshF32, newF32Of};
-ghost use Rattle.decoder_record.specs.Records.{gains, pllF32, saysF32};
+ghost use Rattle.decoder_gains.specs.Gains.{nought, imaxHz, gains};
+ghost use Rattle.phase.specs.Lookup.{quarter};
+ghost use Rattle.decoder_record.specs.Fresh.{freshF32, newF32Of};
+ghost use Rattle.decoder_record.specs.Records.{pllF32, saysF32};
 
 // The loop's gains, its step and phase, the integrator, the lock level and the two switches.
 pub struct StereoPllF32 {
@@ -54,9 +56,21 @@ fn fresh(g: LoopGains) -> StereoPllF32
 
 impl StereoPllF32 {
     // The integrator's limit and a quarter of a turn, as both formats have them.
-    pub const IMAX_HZ: f64 = crate::gains::IMAX_HZ;
+    pub const IMAX_HZ: f64 = decoder_gains::IMAX_HZ;
 
     pub const QUARTER: u32 = phase::lookup::QUARTER;
+
+    pub fn imax_hz() -> f64
+        ensures { λ r. ⌜ r ≡ imaxHz ⌝ }
+    {
+        StereoPllF32::IMAX_HZ
+    }
+
+    pub fn quarter() -> u32
+        ensures { λ r. ⌜ r ≡ quarter ⌝ }
+    {
+        StereoPllF32::QUARTER
+    }
 
     pub fn new(pilot: f64, natural: f64, level: f64, beta: f64, rate: f64) -> NewF32
         ensures { λ r. ⌜ saysF32 r ≡ newF32Of pilot natural level beta rate ⌝ }

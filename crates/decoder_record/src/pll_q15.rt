@@ -1,19 +1,19 @@
 // The Q15 decoder's record: construction, the calls that only set fields, and the read-outs.
-use crate::gains::Checked;
-use crate::gains::LoopGains;
-use crate::gains::common;
+use decoder_gains::Checked;
+use decoder_gains::LoopGains;
+use decoder_gains::common;
 use floats::bits::floor_f64;
 use floats::bits::i64_to_f64;
 use numbers::scale::floor_scaled;
 ghost use mathlib.Core.Path.{_≡_};
 ghost use mathlib.Core.Bool.{true, false};
 ghost use lib.IntN.{pos};
-ghost use lib.Ieee as Ieee;
-ghost use lib.Ieee.{binary64};
 ghost use Rattle.decoder_record.specs.State.{enabledOf, resetOf};
 ghost use Rattle.decoder_record.specs.Fit.{withinZ, fits64, guardOf, fitQ15};
-ghost use Rattle.decoder_record.specs.Gains.{power, freshQ15, holds64, allHold, buildQ15, newQ15Of};
-ghost use Rattle.decoder_record.specs.Records.{gains, pllQ15, saysQ15};
+ghost use Rattle.decoder_gains.specs.Gains.{imaxHz, gains};
+ghost use Rattle.phase.specs.Lookup.{quarter};
+ghost use Rattle.decoder_record.specs.Fresh.{freshQ15, holds64, allHold, buildQ15, newQ15Of, fraction};
+ghost use Rattle.decoder_record.specs.Records.{pllQ15, saysQ15};
 
 // The same fields as in f32: kp and ki in 2^-34, the integrator and its limit in 2^-64 turns a
 // sample, beta in 2^-31, the level and its two thresholds in 2^-61.
@@ -38,6 +38,15 @@ pub enum NewQ15 {
     Refused(u32),
 }
 
+// The scales of the gains.
+const TWO_31: f64 = 2147483648.0;
+
+const TWO_34: f64 = 17179869184.0;
+
+const TWO_61: f64 = 2305843009213693952.0;
+
+const TWO_64: f64 = 18446744073709551616.0;
+
 // Whether x times the scale, rounded, is below 2^63 in size.
 fn holds(x: f64, scale: f64) -> bool
     ensures { λ r. ⌜ r ≡ holds64 x scale ⌝ }
@@ -53,9 +62,9 @@ fn holds(x: f64, scale: f64) -> bool
 fn all_hold(g: LoopGains) -> bool
     ensures { λ r. ⌜ r ≡ allHold (gains g) ⌝ }
 {
-    let levels = holds(g.on, 2305843009213693952.0) & holds(g.off, 2305843009213693952.0);
-    let rest = holds(g.imax, 18446744073709551616.0) & (holds(g.beta, 2147483648.0) & levels);
-    holds(g.kp, 17179869184.0) & (holds(g.ki, 17179869184.0) & rest)
+    let levels = holds(g.on, TWO_61) & holds(g.off, TWO_61);
+    let rest = holds(g.imax, TWO_64) & (holds(g.beta, TWO_31) & levels);
+    holds(g.kp, TWO_34) & (holds(g.ki, TWO_34) & rest)
 }
 
 // Whether gain times 2^30 plus imax fits an i64.
@@ -75,12 +84,12 @@ fn fresh(g: LoopGains) -> StereoPllQ15
     ensures { λ r. ⌜ pllQ15 r ≡ freshQ15 (gains g) ⌝ }
 {
     StereoPllQ15 {
-        kp: floor_scaled(g.kp, 17179869184.0),
-        ki: floor_scaled(g.ki, 17179869184.0),
-        imax: floor_scaled(g.imax, 18446744073709551616.0),
-        beta: floor_scaled(g.beta, 2147483648.0),
-        on: floor_scaled(g.on, 2305843009213693952.0),
-        off: floor_scaled(g.off, 2305843009213693952.0),
+        kp: floor_scaled(g.kp, TWO_34),
+        ki: floor_scaled(g.ki, TWO_34),
+        imax: floor_scaled(g.imax, TWO_64),
+        beta: floor_scaled(g.beta, TWO_31),
+        on: floor_scaled(g.on, TWO_61),
+        off: floor_scaled(g.off, TWO_61),
         step0: g.step0,
         phase: 0,
         integ: 0,
@@ -109,9 +118,21 @@ fn build(g: LoopGains) -> NewQ15
 
 impl StereoPllQ15 {
     // The integrator's limit and a quarter of a turn, as both formats have them.
-    pub const IMAX_HZ: f64 = crate::gains::IMAX_HZ;
+    pub const IMAX_HZ: f64 = decoder_gains::IMAX_HZ;
 
     pub const QUARTER: u32 = phase::lookup::QUARTER;
+
+    pub fn imax_hz() -> f64
+        ensures { λ r. ⌜ r ≡ imaxHz ⌝ }
+    {
+        StereoPllQ15::IMAX_HZ
+    }
+
+    pub fn quarter() -> u32
+        ensures { λ r. ⌜ r ≡ quarter ⌝ }
+    {
+        StereoPllQ15::QUARTER
+    }
 
     pub fn new(pilot: f64, natural: f64, level: f64, beta: f64, rate: f64) -> NewQ15
         ensures { λ r. ⌜ saysQ15 r ≡ newQ15Of pilot natural level beta rate ⌝ }
@@ -166,23 +187,28 @@ impl StereoPllQ15 {
 
     // The integrator in turns a sample.
     pub fn integrator(self) -> f64
-        ensures { λ r. ⌜ r ≡ Ieee.div binary64 (Ieee.ofInt binary64 (self .integ)) (power 64) ⌝ }
+        ensures { λ r. ⌜ r ≡ fraction 64 (self .integ) ⌝ }
     {
-        i64_to_f64(self.integ) / 18446744073709551616.0
+        i64_to_f64(self.integ) / TWO_64
     }
 
     pub fn integrator_limit(self) -> f64
-        ensures { λ r. ⌜ r ≡ Ieee.div binary64 (Ieee.ofInt binary64 (self .imax)) (power 64) ⌝ }
+        ensures { λ r. ⌜ r ≡ fraction 64 (self .imax) ⌝ }
     {
-        i64_to_f64(self.imax) / 18446744073709551616.0
+        i64_to_f64(self.imax) / TWO_64
     }
 
     pub fn lock_level(self) -> f64
-        ensures { λ r. ⌜ r ≡ Ieee.div binary64 (Ieee.ofInt binary64 (self .level)) (power 61) ⌝ }
+        ensures { λ r. ⌜ r ≡ fraction 61 (self .level) ⌝ }
     {
-        i64_to_f64(self.level) / 2305843009213693952.0
+        i64_to_f64(self.level) / TWO_61
     }
 }
+
+// The level's bounds: -2^61 - 2^30 and 2^61 + 2^30 - 1.
+const LEVEL_LOW: i64 = -2305843010287435776;
+
+const LEVEL_HIGH: i64 = 2305843010287435775;
 
 // Whether z is in lo..=hi.
 fn in_range(lo: i64, hi: i64, z: i64) -> bool
@@ -199,8 +225,8 @@ pub fn is_fit(d: StereoPllQ15) -> bool
     if imax < 0 {
         return false;
     }
-    let gains = (d.kp >= 0) & (d.ki >= 0) & in_range(0, 2147483648, d.beta);
+    let gains = (d.kp >= 0) & (d.ki >= 0);
     let guards = guard_fits(d.kp, imax) & guard_fits(d.ki, imax);
-    let level = in_range(-2305843010287435776, 2305843010287435775, d.level);
+    let level = in_range(0, 2147483648, d.beta) & in_range(LEVEL_LOW, LEVEL_HIGH, d.level);
     gains & guards & in_range(-imax, imax, d.integ) & level
 }

@@ -1,27 +1,24 @@
--- The encoders' blocks: the lengths of an accepted one, and, over the encoder's record, what a block leaves when it is turned back and when it is carried out. Assumes nothing.
+-- The encoders' blocks: the lengths of an accepted one, and, over the encoder's record, what a block leaves
+-- when it is turned back and when it is carried out. Assumes nothing.
 use Prim.Native.Nat.{ℕ}
-use mathlib.Core.Path.{_≡_, refl}
+use mathlib.Core.Path.{_≡_}
 use mathlib.Core.Bool.{true, false}
-use mathlib.Core.List.{List}
+use mathlib.Core.List.{List, [], _∷_}
 use lib.Ieee.{Float}
-use Rattle.answers.specs.Answer.{Said, lengths, accepts, firstOf, tableRule, inputRule, outputRule, kept}
-use Rattle.encoder.specs.Multiplex.{Encoded}
-use Rattle.answers.proofs.Lengths.{length-is, and-length}
+use Rattle.answers.specs.Answer.{Said, accepts, entries, tableRule, inputRule, outputRule, kept}
+use Rattle.encoder.specs.Multiplex.{encodeSays, encodeRdsSays, Encoded}
+use Rattle.answers.proofs.Causes.{each, length-is}
 
 -- n is the length of left, and the others those of table, right, the RDS baseband and output
-pub encode-lengths : (n t r o : ℕ) → accepts (firstOf (firstOf (tableRule t) (inputRule n r)) (outputRule n o)) ≡ true → (t ≡ 4097) × (r ≡ n) × (o ≡ n)
-encode-lengths n t r o h =
-    let x = and-length (firstOf (tableRule t) (inputRule n r)) 11 o n h in
-    let y = and-length (tableRule t) 10 r n (x .0) in
-    (length-is t 4097 (lengths 9 4097 t) refl (y .0), y .1, x .1)
+pub encode-lengths : (t n r o : ℕ) → accepts (encodeSays t n r o) ≡ true → (t ≡ entries) × (r ≡ n) × (o ≡ n)
+encode-lengths t n r o h =
+    let x = each (tableRule t ∷ inputRule n r ∷ outputRule n o ∷ []) h in
+    (length-is 9 entries t (x .0), length-is 10 n r (x .1 .0), length-is 11 n o (x .1 .1 .0))
 
-pub encode-rds-lengths : (n t r b o : ℕ) → accepts (firstOf (firstOf (firstOf (tableRule t) (inputRule n r)) (inputRule n b)) (outputRule n o)) ≡ true → (t ≡ 4097) × (r ≡ n) × (b ≡ n) × (o ≡ n)
-encode-rds-lengths n t r b o h =
-    let s = firstOf (tableRule t) (inputRule n r) in
-    let x = and-length (firstOf s (inputRule n b)) 11 o n h in
-    let y = and-length s 10 b n (x .0) in
-    let z = and-length (tableRule t) 10 r n (y .0) in
-    (length-is t 4097 (lengths 9 4097 t) refl (z .0), z .1, y .1, x .1)
+pub encode-rds-lengths : (t n r b o : ℕ) → accepts (encodeRdsSays t n r b o) ≡ true → (t ≡ entries) × (r ≡ n) × (b ≡ n) × (o ≡ n)
+encode-rds-lengths t n r b o h =
+    let x = each (tableRule t ∷ inputRule n r ∷ inputRule n b ∷ outputRule n o ∷ []) h in
+    (length-is 9 entries t (x .0), length-is 10 n r (x .1 .0), length-is 10 n b (x .1 .1 .0), length-is 11 n o (x .1 .1 .1 .0))
 
 module _ {E : Type 0} {s said : Said} (q : s ≡ said) where
   -- what a block leaves by its answer: the samples it made, and the next encoder

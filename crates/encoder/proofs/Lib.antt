@@ -1,3 +1,4 @@
 pub mod Phases
 pub mod Encoders
 pub mod Passes
+pub mod Free

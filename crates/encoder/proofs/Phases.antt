@@ -1,4 +1,5 @@
--- An encoder's loop over its samples, whatever a sample is: the phase before each sample, and the output once all are written. Assumes nothing.
+-- An encoder's loop over its samples, whatever a sample is: the phase before each sample, and the output once
+-- all are written. Assumes nothing.
 use Prim.Native.Nat.{ℕ, _+_, _*_, _%_, _^_, _≤_, _<_}
 use mathlib.Core.Path.{_≡_, ap, _∙_}
 use mathlib.Core.List.{List}

@@ -1,6 +1,6 @@
 // The multiplex with RDS on the subcarrier at three times the pilot's phase.
+use crate::stereo::full_table;
 use crate::stereo::run;
-use crate::stereo::whole;
 use answers::answer::Answer;
 use answers::answer::is_accepted;
 use answers::answer::table_rule;
@@ -26,7 +26,9 @@ pub struct EncodeRdsReply {
 // RDS is added to each sample.
 fn add_rds(e: StereoEncodeRds, table: &[f32], rds: &[f32], output: &mut [f32])
     requires { ⌜ length (now output) ≡ length (now rds) ⌝ }
-    ensures { λ r. ⌜ now (output .exit) ≡ samples (length (now (rds .entry))) (λ i. add binary32 (getD (now (output .entry)) i nan) (mul binary32 (mul binary32 (e .rds) (getD (now (rds .entry)) i nan)) (cosF32 (now (table .entry)) (sineAt 3 (phaseAt (e .enc) i))))) ⌝ }
+    ensures { λ r. ⌜ now (output .exit)
+        ≡ samples (length (now (rds .entry))) (λ i. add binary32 (getD (now (output .entry)) i nan)
+        (mul binary32 (mul binary32 (e .rds) (getD (now (rds .entry)) i nan)) (cosF32 (now (table .entry)) (sineAt 3 (phaseAt (e .enc) i))))) ⌝ }
 {
     let enc = e.enc;
     let level = e.rds;
@@ -52,7 +54,8 @@ pub fn encode(
     rds: &[f32],
     output: &mut [f32],
 ) -> EncodeRdsReply
-    ensures { λ r. ⌜ record { said = says (r .answer); output = now (output .exit); encoder = r .encoder } ≡ encodeRdsOf e (now (table .entry)) (now (left .entry)) (now (right .entry)) (now (rds .entry)) (now (output .entry)) ⌝ }
+    ensures { λ r. ⌜ record { said = says (r .answer); output = now (output .exit); encoder = r .encoder }
+        ≡ encodeRdsOf e (now (table .entry)) (now (left .entry)) (now (right .entry)) (now (rds .entry)) (now (output .entry)) ⌝ }
 {
     let n = left.len();
     let a = then_input(table_rule(table.len()), n, right.len());
@@ -63,7 +66,7 @@ pub fn encode(
     }
     let enc = e.enc;
     let p = run(enc, table, left, right, output);
-    add_rds(e, whole(table), rds, output);
+    add_rds(e, full_table(table), rds, output);
     EncodeRdsReply {
         answer,
         encoder: e.set_phase(p),

@@ -1,10 +1,13 @@
--- The encoders' records: construction and set calls. Sources: document 01, "`StereoEncode`", "Calls turned back". Definitions only.
+-- The encoders' records: construction and set calls. Sources: document 01, "`StereoEncode`", "Calls turned
+-- back". Definitions only.
 use Prim.Native.Nat.{ℕ}
-use mathlib.Core.Bool.{Bool, false, cond}
-use lib.IntN.{pos, negsuc}
-use lib.Ieee.{Float, fin, binary64, div, le}
-use Rattle.oscillator.specs.Oscillator.{goodRate, turnOf, phaseSet}
-use Rattle.floats.specs.Floats.{inRange}
+use mathlib.Core.Bool.{Bool, false}
+use mathlib.Core.List.{List, [], _∷_, _++_}
+use lib.IntN.{pos}
+use lib.Ieee.{Float, fin, binary32, binary64, div, le}
+use Rattle.answers.specs.Answer.{Said, rule, firstCause, Built, made, refused, builtBy, Changed, changed, unchanged, changedBy}
+use Rattle.oscillator.specs.Oscillator.{incrementOf, fresh, phaseSet}
+use Rattle.floats.specs.Floats.{nearest, positive, inRange}
 use Rattle.encoder_record.specs.declared.encode.StereoEncode.{StereoEncode}
 use Rattle.encoder_record.specs.declared.encode.NewEncode.{NewEncode}
 use Rattle.encoder_record.specs.declared.encode.NewEncode.the-variants as new
@@ -16,52 +19,71 @@ use Rattle.encoder_record.specs.declared.rds.NewEncodeRds.the-variants a
 use Rattle.encoder_record.specs.declared.rds.SetEncodeRds.{SetEncodeRds}
 use Rattle.encoder_record.specs.declared.rds.SetEncodeRds.the-variants as setRds
 
--- ---- construction: causes 1, 12, 13, 14, 15 in order, then 16
--- 18000 is 1125 * 2^4, 20000 is 625 * 2^5 and 120000 is 1875 * 2^6
+-- ---- construction: the causes 1, 12, 13, 14, 15 in order, then 16
 abbrev zero : Float
 zero = fin false 0 (pos 0)
 
 abbrev one : Float
 one = fin false 1 (pos 0)
 
--- the f32 nearest 0.2 (pattern 0x3E4CCCCD)
-abbrev pub fifth : Float
-fifth = fin false 13421773 (negsuc 25)
-
--- an amplitude of the pilot, or a level of RDS, that is allowed
+-- an amplitude of the pilot, or a level of RDS, is allowed from 0 to the f32 nearest 0.2
 abbrev pub goodLevel : Float → Bool
-goodLevel x = inRange zero fifth x
+goodLevel x = inRange zero (nearest binary32 2 10) x
 
-unfoldable pub newEncodeOf : Float → Float → Float → Float → NewEncode
-newEncodeOf frequency main pilot rate =
-    cond (goodRate rate)
-    (cond (inRange (fin false 1125 (pos 4)) (fin false 625 (pos 5)) frequency)
-    (cond (inRange zero one main)
-    (cond (goodLevel pilot)
-    (cond (le (fin false 1875 (pos 6)) rate) (new.Made (record { nco = record { phase = 0; inc = turnOf (div binary64 frequency rate) }; main = main; pilot = pilot })) (new.Refused 15))
-    (new.Refused 14))
-    (new.Refused 13))
-    (new.Refused 12))
-    (new.Refused 1)
+abbrev pub causes : Float → Float → Float → Float → List Said
+causes frequency main pilot rate =
+    rule 1 (positive rate)
+    ∷ rule 12 (inRange (nearest binary64 18000 1) (nearest binary64 20000 1) frequency)
+    ∷ rule 13 (inRange zero one main)
+    ∷ rule 14 (goodLevel pilot)
+    ∷ rule 15 (le (nearest binary64 120000 1) rate)
+    ∷ []
 
--- the encoder with RDS, from the one without
-abbrev pub withRds : Float → NewEncode → NewEncodeRds
-withRds rds (new.Made e) = cond (goodLevel rds) (newRds.Made (record { enc = e; rds = rds })) (newRds.Refused 16)
-withRds rds (new.Refused n) = newRds.Refused n
+abbrev pub encoderOf : Float → Float → Float → Float → StereoEncode
+encoderOf frequency main pilot rate =
+    record { nco = fresh (incrementOf (div binary64 frequency rate)); main = main; pilot = pilot }
 
--- ---- setters: a refused one leaves the old record
-abbrev pub setPilotOf : StereoEncode → Float → SetEncode
-setPilotOf e x = cond (goodLevel x) (set.Done (record { nco = e .nco; main = e .main; pilot = x })) (set.Refused 14 e)
+unfoldable pub newOf : Float → Float → Float → Float → Built StereoEncode
+newOf frequency main pilot rate =
+    builtBy (firstCause (causes frequency main pilot rate)) (encoderOf frequency main pilot rate)
 
-abbrev pub inRds : StereoEncodeRds → SetEncode → SetEncodeRds
-inRds e (set.Done enc) = setRds.Done (record { enc = enc; rds = e .rds })
-inRds e (set.Refused n old) = setRds.Refused n e
+-- with RDS
+unfoldable pub newRdsOf : Float → Float → Float → Float → Float → Built StereoEncodeRds
+newRdsOf frequency main pilot rds rate =
+    builtBy (firstCause (causes frequency main pilot rate ++ (rule 16 (goodLevel rds) ∷ [])))
+    (record { enc = encoderOf frequency main pilot rate; rds = rds })
 
-abbrev pub setRdsOf : StereoEncodeRds → Float → SetEncodeRds
-setRdsOf e x = cond (goodLevel x) (setRds.Done (record { enc = e .enc; rds = x })) (setRds.Refused 16 e)
+-- ---- set calls: a refused one leaves the old record
+abbrev pub setPilotOf : StereoEncode → Float → Changed StereoEncode
+setPilotOf e x = changedBy (rule 14 (goodLevel x)) (record { nco = e .nco; main = e .main; pilot = x }) e
+
+abbrev pub setRdsPilotOf : StereoEncodeRds → Float → Changed StereoEncodeRds
+setRdsPilotOf e x =
+    changedBy (rule 14 (goodLevel x))
+    (record { enc = record { nco = e .enc .nco; main = e .enc .main; pilot = x }; rds = e .rds }) e
+
+abbrev pub setRdsOf : StereoEncodeRds → Float → Changed StereoEncodeRds
+setRdsOf e x = changedBy (rule 16 (goodLevel x)) (record { enc = e .enc; rds = x }) e
 
 abbrev pub encodeAt : StereoEncode → ℕ → StereoEncode
 encodeAt e p = record { nco = phaseSet (e .nco) p; main = e .main; pilot = e .pilot }
 
 abbrev pub rdsAt : StereoEncodeRds → ℕ → StereoEncodeRds
 rdsAt e p = record { enc = encodeAt (e .enc) p; rds = e .rds }
+
+-- ---- the program's answers in document 01's terms
+abbrev pub saysNew : NewEncode → Built StereoEncode
+saysNew (new.Made e) = made e
+saysNew (new.Refused n) = refused n
+
+abbrev pub saysSet : SetEncode → Changed StereoEncode
+saysSet (set.Done e) = changed e
+saysSet (set.Refused n e) = unchanged n e
+
+abbrev pub saysNewRds : NewEncodeRds → Built StereoEncodeRds
+saysNewRds (newRds.Made e) = made e
+saysNewRds (newRds.Refused n) = refused n
+
+abbrev pub saysSetRds : SetEncodeRds → Changed StereoEncodeRds
+saysSetRds (setRds.Done e) = changed e
+saysSetRds (setRds.Refused n e) = unchanged n e

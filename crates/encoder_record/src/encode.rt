@@ -1,11 +1,12 @@
 // The stereo multiplex encoder's record: construction, set calls and read-outs.
-use floats::bits::is_finite_f64;
+use floats::bits::is_positive_f64;
 use oscillator::nco::Nco;
-use oscillator::nco::turn;
+use oscillator::nco::increment_of;
 ghost use mathlib.Core.Path.{_≡_};
-ghost use Rattle.encoder_record.specs.Encode.{goodLevel, newEncodeOf, setPilotOf, encodeAt};
+ghost use Rattle.encoder_record.specs.Encode.{goodLevel, newOf, setPilotOf, encodeAt, saysNew, saysSet};
 
 // The pilot's oscillator, the gain of the sum and difference signals, and the pilot's amplitude.
+#[repr(C)]
 pub struct StereoEncode {
     pub nco: Nco,
     pub main: f32,
@@ -34,9 +35,9 @@ pub fn good_level(x: f32) -> bool
 impl StereoEncode {
     // The causes 1, 12, 13, 14 and 15, in order.
     pub fn new(frequency: f64, main: f32, pilot: f32, rate: f64) -> NewEncode
-        ensures { λ r. ⌜ r ≡ newEncodeOf frequency main pilot rate ⌝ }
+        ensures { λ r. ⌜ saysNew r ≡ newOf frequency main pilot rate ⌝ }
     {
-        if !(is_finite_f64(rate) & (rate > 0.0)) {
+        if !is_positive_f64(rate) {
             return NewEncode::Refused(1);
         }
         if !((frequency >= 18000.0) & (frequency <= 20000.0)) {
@@ -51,7 +52,7 @@ impl StereoEncode {
         if !(rate >= 120000.0) {
             return NewEncode::Refused(15);
         }
-        let inc = turn(frequency / rate);
+        let inc = increment_of(frequency / rate);
         NewEncode::Made(StereoEncode {
             nco: Nco { phase: 0, inc },
             main,
@@ -60,7 +61,7 @@ impl StereoEncode {
     }
 
     pub fn set_pilot(self, pilot: f32) -> SetEncode
-        ensures { λ r. ⌜ r ≡ setPilotOf self pilot ⌝ }
+        ensures { λ r. ⌜ saysSet r ≡ setPilotOf self pilot ⌝ }
     {
         if !good_level(pilot) {
             return SetEncode::Refused(14, self);

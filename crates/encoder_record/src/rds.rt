@@ -4,9 +4,10 @@ use crate::encode::SetEncode;
 use crate::encode::StereoEncode;
 use crate::encode::good_level;
 ghost use mathlib.Core.Path.{_≡_};
-ghost use Rattle.encoder_record.specs.Encode.{newEncodeOf, withRds, setPilotOf, inRds, setRdsOf, rdsAt};
+ghost use Rattle.encoder_record.specs.Encode.{newRdsOf, setRdsOf, setRdsPilotOf, rdsAt, saysNewRds, saysSetRds};
 
 // The stereo part, and the level of RDS.
+#[repr(C)]
 pub struct StereoEncodeRds {
     pub enc: StereoEncode,
     pub rds: f32,
@@ -27,7 +28,7 @@ pub enum SetEncodeRds {
 impl StereoEncodeRds {
     // The causes of the stereo part, then 16.
     pub fn new(frequency: f64, main: f32, pilot: f32, rds: f32, rate: f64) -> NewEncodeRds
-        ensures { λ r. ⌜ r ≡ withRds rds (newEncodeOf frequency main pilot rate) ⌝ }
+        ensures { λ r. ⌜ saysNewRds r ≡ newRdsOf frequency main pilot rds rate ⌝ }
     {
         match StereoEncode::new(frequency, main, pilot, rate) {
             NewEncode::Made(enc) => {
@@ -41,7 +42,7 @@ impl StereoEncodeRds {
     }
 
     pub fn set_rds(self, rds: f32) -> SetEncodeRds
-        ensures { λ r. ⌜ r ≡ setRdsOf self rds ⌝ }
+        ensures { λ r. ⌜ saysSetRds r ≡ setRdsOf self rds ⌝ }
     {
         if !good_level(rds) {
             return SetEncodeRds::Refused(16, self);
@@ -57,7 +58,7 @@ impl StereoEncodeRds {
     }
 
     pub fn set_pilot(self, pilot: f32) -> SetEncodeRds
-        ensures { λ r. ⌜ r ≡ inRds self (setPilotOf (self .enc) pilot) ⌝ }
+        ensures { λ r. ⌜ saysSetRds r ≡ setRdsPilotOf self pilot ⌝ }
     {
         let old = self.enc;
         match old.set_pilot(pilot) {

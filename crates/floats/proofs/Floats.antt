@@ -1,4 +1,5 @@
--- Laws of the float definitions, by any fraction that a value equals (`HasValue x s a c`: x is finite, has the sign s and is a / c). Assumes nothing.
+-- Laws of the float definitions, by any fraction that a value equals (`HasValue x s a c`: x is finite, has the
+-- sign s and is a / c). Assumes nothing.
 use Prim.Native.Nat.{ℕ, zero, suc, _+_, _-_, _*_, _/_, _%_, _^_, _≤_, _<_}
 use mathlib.Core.Path.{_≡_, refl, sym, ap, _∙_, subst}
 use mathlib.Core.Bool.{Bool, true, false, not, cond}

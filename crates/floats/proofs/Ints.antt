@@ -82,7 +82,8 @@ module _ (n : ℕ) (big : 9007199254740992 < n) (fit : n < 18446744073709551616)
     pub made-real : T (not (nanBits binary64 made))
     made-real = subst (λ (t : Bool). T (not t)) (sym (nanBits-is binary64 made ∙ ap isNan (encode binary64 false n 1 made bits-are))) (round-no-nan binary64 false n 1)
 
--- ---- the size and the sign of an i64. Y is n as the machine reads it back from its bits, which the test `n >= 0` is of
+-- ---- the size and the sign of an i64. Y is n as the machine reads it back from its bits, which the test `n
+-- >= 0` is of
 not-minus : {n Y : ℤ} → Y ≡ n → leZ (pos 0) Y ≡ true → T (nonNeg n)
 not-minus {n} e h = go n (rw e at h)
   where

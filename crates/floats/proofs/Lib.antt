@@ -1,3 +1,4 @@
 pub mod Floats
 pub mod Narrow
 pub mod Ints
+pub mod Free

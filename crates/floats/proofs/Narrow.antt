@@ -1,4 +1,5 @@
--- An f64 at binary32, from its bits. D and E are the digits and the exponent's field of its pattern b. Assumes nothing.
+-- An f64 at binary32, from its bits. D and E are the digits and the exponent's field of its pattern b. Assumes
+-- nothing.
 use Prim.Native.Nat.{ℕ, _+_, _-_, _*_, _/_, _%_, _^_, _≤_, _<_, min}
 use mathlib.Core.Path.{_≡_, refl, sym, ap, _∙_, subst}
 use mathlib.Core.Logic.{_⊎_, inl, inr}

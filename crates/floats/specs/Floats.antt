@@ -1,10 +1,19 @@
--- Floats by their exact values. Sources: IEEE 754-2019 (5.9 roundToIntegral, 5.4.2 formatOf-convertFormat, 5.4.1 convertFromInt), document 01, "Number helpers". Definitions only.
--- `fin s m e` is the number m * 2^e, negative where s is true: the fraction m * up e / down e. `round f s num den` is the value of the format f nearest to num/den,
--- a tie to the even one, with the sign s; it alone knows the format, subnormal values and the overflow to infinity (lib.Ieee, the kit's account of IEEE 754).
-use Prim.Native.Nat.{_*_}
+-- Floats by their exact values. Sources: IEEE 754-2019 (5.9 roundToIntegral, 5.4.2 formatOf-convertFormat,
+-- 5.4.1 convertFromInt), document 01, "Number helpers". Definitions only.
+-- `fin s m e` is the number m * 2^e, negative where s is true: the fraction m * up e / down e. `round f s num
+-- den` is the value of the format f nearest to num/den,
+-- a tie to the even one, with the sign s; it alone knows the format, subnormal values and the overflow to
+-- infinity (lib.Ieee, the kit's account of IEEE 754).
+use Prim.Native.Nat.{ℕ, _*_}
 use mathlib.Core.Bool.{Bool, false, _&&_}
-use lib.Ieee.{Float, nan, inf, fin, up, down, Format, binary64, round, le}
+use lib.IntN.{pos}
+use lib.Ieee.{Float, nan, inf, fin, up, down, Format, binary64, round, lt, le}
+use lib.Ieee.Scale.{finite}
 use Rattle.rounding.specs.Cut.{Rule, downward, halfEven, cutBy}
+
+-- the value of the format nearest to num/den, for a limit that a document gives as a decimal fraction
+abbrev pub nearest : Format → ℕ → ℕ → Float
+nearest f num den = round f false num den
 
 -- x cut to a whole number by a rule. The sign stays, also of a zero; an infinity and a NaN stay.
 unfoldable pub wholeOf : Rule → Float → Float
@@ -31,6 +40,10 @@ abbrev pub absOf : Float → Float
 absOf nan = nan
 absOf (inf s) = inf false
 absOf (fin s m e) = fin false m e
+
+-- finite and above 0
+abbrev pub positive : Float → Bool
+positive x = finite x && lt (fin false 0 (pos 0)) x
 
 -- lo ≤ x ≤ hi: a NaN is in no range, and minus zero counts as 0
 abbrev pub inRange : Float → Float → Float → Bool

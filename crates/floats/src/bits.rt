@@ -1,5 +1,5 @@
 // Floats worked out from their bits: each conversion cuts the digits at a place and looks at what
-// falls off. In an f64's pattern the exponent's field stands at 2^52 and the sign at 2^63.
+// falls off.
 ghost use mathlib.Core.Bool.{false};
 ghost use mathlib.Core.Path.{_≡_};
 ghost use Prim.Native.Nat.{_<_, _-_, _*_, _^_};
@@ -9,8 +9,17 @@ ghost use lib.Ieee.{binary32, binary64};
 ghost use lib.Ieee.Scale.{finite};
 ghost use Rattle.rounding.specs.Cut.{cutBy, grows, restBy};
 ghost use Rattle.rounding.specs.Pattern.{field, digits};
-ghost use Rattle.floats.specs.Floats.{wholeOf, floorOf, halfEvenOf, toFormat};
+ghost use Rattle.floats.specs.Floats.{wholeOf, floorOf, halfEvenOf, toFormat, positive};
 ghost use Rattle.floats.specs.Rules.{ruleOf};
+
+// In an f64's pattern the weight of the sign, and that of the exponent's field, which is also the
+// leading one's.
+const SIGN: u64 = 9223372036854775808;
+
+const LEADING: u64 = 4503599627370496;
+
+// 2^63, where an i64 ends.
+const TWO_63: f64 = 9223372036854775808.0;
 
 // How a number that was cut is rounded.
 enum Rule {
@@ -56,11 +65,11 @@ fn cut(rule: Rule, negative: bool, d: u64, place: u64) -> u64
 fn digits_of(b: u64) -> u64
     ensures { λ r. ⌜ r ≡ digits binary64 b ⌝ }
 {
-    let low = b % 4503599627370496;
-    if b % 9223372036854775808 < 4503599627370496 {
+    let low = b % LEADING;
+    if b % SIGN < LEADING {
         low
     } else {
-        4503599627370496 + low
+        LEADING + low
     }
 }
 
@@ -68,7 +77,7 @@ fn digits_of(b: u64) -> u64
 fn place_of(b: u64) -> u64
     ensures { λ r. ⌜ r ≡ 1074 - (field binary64 b - 1) ⌝ }
 {
-    let e = b % 9223372036854775808 / 4503599627370496;
+    let e = b % SIGN / LEADING;
     if e == 0 {
         return 1074;
     }
@@ -94,10 +103,10 @@ fn whole(rule: Rule, x: f64) -> f64
     }
     let b = f64::to_bits(x);
     // no digit stands below 1
-    if b % 9223372036854775808 / 4503599627370496 >= 1075 {
+    if b % SIGN / LEADING >= 1075 {
         return x;
     }
-    if b < 9223372036854775808 {
+    if b < SIGN {
         return whole_size(rule, false, b) as f64;
     }
     -(whole_size(rule, true, b) as f64)
@@ -122,7 +131,7 @@ fn narrow(b: u64) -> u64
     requires { ⌜ field binary64 b < 2047 ⌝ }
     ensures { λ r. ⌜ r ≡ Ieee.toBits binary32 (Ieee.round binary32 false (digits binary64 b * 2 ^ (field binary64 b - 1)) (2 ^ 1074)) ⌝ }
 {
-    let e = b % 9223372036854775808 / 4503599627370496;
+    let e = b % SIGN / LEADING;
     // subnormal as an f32, whose last digit stands at 2^-149
     if e < 897 {
         return cut(Rule::HalfEven, false, digits_of(b), place_of(b) - 149);
@@ -139,8 +148,8 @@ pub fn f64_to_f32(x: f64) -> f32
         return 0.0 / 0.0;
     }
     let b = f64::to_bits(x);
-    let sign = b / 9223372036854775808 * 2147483648;
-    if b % 9223372036854775808 / 4503599627370496 == 2047 {
+    let sign = b / SIGN * 2147483648;
+    if b % SIGN / LEADING == 2047 {
         return f32::from_bits((sign + 2139095040) as u32);
     }
     f32::from_bits((sign + narrow(b)) as u32)
@@ -155,7 +164,7 @@ fn nearest_u64(n: u64) -> f64
         return n as f64;
     }
     let place = 11 - u64::leading_zeros(n) as u64;
-    f64::from_bits((1074 + place) * 4503599627370496 + cut(Rule::HalfEven, false, n, place))
+    f64::from_bits((1074 + place) * LEADING + cut(Rule::HalfEven, false, n, place))
 }
 
 // The size of n.
@@ -181,8 +190,8 @@ pub fn i64_to_f64(n: i64) -> f64
 pub fn f64_to_i64(x: f64) -> i64
     ensures { λ r. ⌜ r ≡ Ieee.toSigned 63 x ⌝ }
 {
-    if x >= -9223372036854775808.0 {
-        if x < 9223372036854775808.0 {
+    if x >= -TWO_63 {
+        if x < TWO_63 {
             return std::num::truncating_f64_to_i64(x);
         }
         return 9223372036854775807;
@@ -202,10 +211,10 @@ pub fn floor_to_i64(x: f64) -> i64
     }
     let b = f64::to_bits(x);
     // no digit stands below 1
-    if b % 9223372036854775808 / 4503599627370496 >= 1075 {
+    if b % SIGN / LEADING >= 1075 {
         return f64_to_i64(x);
     }
-    if b >= 9223372036854775808 {
+    if b >= SIGN {
         return -(whole_size(Rule::Downward, true, b) as i64);
     }
     whole_size(Rule::Downward, false, b) as i64
@@ -221,6 +230,13 @@ pub fn is_finite_f64(x: f64) -> bool
     ensures { λ r. ⌜ r ≡ finite x ⌝ }
 {
     x - x == 0.0
+}
+
+// Finite and above 0.
+pub fn is_positive_f64(x: f64) -> bool
+    ensures { λ r. ⌜ r ≡ positive x ⌝ }
+{
+    is_finite_f64(x) & (x > 0.0)
 }
 
 // x, which every f64 holds; a NaN gives a NaN.

@@ -1,4 +1,5 @@
--- d added or subtracted twice, limited each time, is 2d added or subtracted and limited once: where the first step is limited, d has that sign, and the second goes the same way. Assumes nothing.
+-- d added or subtracted twice, limited each time, is 2d added or subtracted and limited once: where the first
+-- step is limited, d has that sign, and the second goes the same way. Assumes nothing.
 use Prim.Native.Nat.{_+_, _*_, _<_}
 use mathlib.Core.Path.{_≡_, sym, ap, _∙_}
 use native.Mathlib.Omega.{arith}

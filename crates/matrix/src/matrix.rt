@@ -7,17 +7,14 @@ use answers::answer::then_output;
 use numbers::fixed::q15_add_sat;
 use numbers::fixed::q15_sub_sat;
 ghost use mathlib.Core.Path.{_≡_};
-ghost use lib.ListN.{length, getD};
-ghost use lib.IntN.{pos};
-ghost use lib.Ieee.{nan};
-ghost use Rattle.answers.specs.Answer.{says};
-ghost use Rattle.answers.specs.Samples.{samples};
+ghost use lib.ListN.{length};
+ghost use Rattle.answers.specs.Answer.{says, accepted};
 ghost use Rattle.matrix.specs.Matrix.{
   matrixSays,
-  leftF32,
-  rightF32,
   leftQ15,
   rightQ15,
+  filledF32,
+  filledQ15,
   matrixF32,
   matrixQ15,
 };
@@ -31,8 +28,11 @@ fn matrix_lengths(sum: usize, difference: usize, left: usize, right: usize) -> A
 }
 
 fn fill_f32(sum: &[f32], difference: &[f32], left: &mut [f32], right: &mut [f32])
-    requires { ⌜ (length (now difference) ≡ length (now sum)) × (length (now left) ≡ length (now sum)) × (length (now right) ≡ length (now sum)) ⌝ }
-    ensures { λ r. ⌜ now (left .exit) ≡ samples (length (now (sum .entry))) (λ i. leftF32 (getD (now (sum .entry)) i nan) (getD (now (difference .entry)) i nan)) ⌝ ∗ ⌜ now (right .exit) ≡ samples (length (now (sum .entry))) (λ i. rightF32 (getD (now (sum .entry)) i nan) (getD (now (difference .entry)) i nan)) ⌝ }
+    requires { ⌜ (length (now difference) ≡ length (now sum))
+        × (length (now left) ≡ length (now sum))
+        × (length (now right) ≡ length (now sum)) ⌝ }
+    ensures { λ r. ⌜ record { said = accepted; left = now (left .exit); right = now (right .exit) }
+        ≡ filledF32 (now (sum .entry)) (now (difference .entry)) ⌝ }
 {
     let mut i = 0usize;
     while i < sum.len() {
@@ -46,7 +46,8 @@ fn fill_f32(sum: &[f32], difference: &[f32], left: &mut [f32], right: &mut [f32]
 }
 
 pub fn matrix_f32(sum: &[f32], difference: &[f32], left: &mut [f32], right: &mut [f32]) -> Answer
-    ensures { λ r. ⌜ record { said = says r; left = now (left .exit); right = now (right .exit) } ≡ matrixF32 (now (sum .entry)) (now (difference .entry)) (now (left .entry)) (now (right .entry)) ⌝ }
+    ensures { λ r. ⌜ record { said = says r; left = now (left .exit); right = now (right .exit) }
+        ≡ matrixF32 (now (sum .entry)) (now (difference .entry)) (now (left .entry)) (now (right .entry)) ⌝ }
 {
     let n = sum.len();
     let a = matrix_lengths(n, difference.len(), left.len(), right.len());
@@ -73,8 +74,11 @@ fn right_q15(s: i16, d: i16) -> i16
 }
 
 fn fill_q15(sum: &[i16], difference: &[i16], left: &mut [i16], right: &mut [i16])
-    requires { ⌜ (length (now difference) ≡ length (now sum)) × (length (now left) ≡ length (now sum)) × (length (now right) ≡ length (now sum)) ⌝ }
-    ensures { λ r. ⌜ now (left .exit) ≡ samples (length (now (sum .entry))) (λ i. leftQ15 (getD (now (sum .entry)) i (pos 0)) (getD (now (difference .entry)) i (pos 0))) ⌝ ∗ ⌜ now (right .exit) ≡ samples (length (now (sum .entry))) (λ i. rightQ15 (getD (now (sum .entry)) i (pos 0)) (getD (now (difference .entry)) i (pos 0))) ⌝ }
+    requires { ⌜ (length (now difference) ≡ length (now sum))
+        × (length (now left) ≡ length (now sum))
+        × (length (now right) ≡ length (now sum)) ⌝ }
+    ensures { λ r. ⌜ record { said = accepted; left = now (left .exit); right = now (right .exit) }
+        ≡ filledQ15 (now (sum .entry)) (now (difference .entry)) ⌝ }
 {
     let mut i = 0usize;
     while i < sum.len() {
@@ -87,7 +91,8 @@ fn fill_q15(sum: &[i16], difference: &[i16], left: &mut [i16], right: &mut [i16]
 }
 
 pub fn matrix_q15(sum: &[i16], difference: &[i16], left: &mut [i16], right: &mut [i16]) -> Answer
-    ensures { λ r. ⌜ record { said = says r; left = now (left .exit); right = now (right .exit) } ≡ matrixQ15 (now (sum .entry)) (now (difference .entry)) (now (left .entry)) (now (right .entry)) ⌝ }
+    ensures { λ r. ⌜ record { said = says r; left = now (left .exit); right = now (right .exit) }
+        ≡ matrixQ15 (now (sum .entry)) (now (difference .entry)) (now (left .entry)) (now (right .entry)) ⌝ }
 {
     let n = sum.len();
     let a = matrix_lengths(n, difference.len(), left.len(), right.len());

@@ -7,13 +7,14 @@ use native.Mathlib.Nat.{mul-pos}
 use borrow.Author.Tests.{lt-ltb}
 use lib.Dec.{lit<}
 use lib.IntN.{pos}
-use lib.Ieee.{Float, nan, inf, fin, up, down, lt, neg}
+use lib.Ieee.{Float, nan, inf, fin, up, down, round, lt, neg}
 use lib.Ieee.Fits.{down-pos}
 use Rattle.numbers.specs.Flush.{flushOf, tiny}
 
--- ---- |x| is below `tiny` exactly where x is below it and above its negative: one of the two tests is plain by the sign
+-- ---- |x| is below `tiny` exactly where x is below it and above its negative: one of the two tests is plain
+-- by the sign
 pub two-tests : (x : Float) → cond (lt x tiny) (cond (lt (neg tiny) x) (fin false 0 (pos 0)) x) x ≡ flushOf x
-unfolding flushOf lt neg
+unfolding flushOf lt neg round
 two-tests nan = refl
 two-tests (inf true) = refl
 two-tests (inf false) = refl

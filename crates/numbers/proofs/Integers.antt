@@ -1,4 +1,5 @@
--- Laws of the whole-number definitions, for the functions here and the layers above. `up`, `dn` and the laws that `omega` reads are those of rounding's Lin.antt. Assumes nothing.
+-- Laws of the whole-number definitions, for the functions here and the layers above. `up`, `dn` and the laws
+-- that `omega` reads are those of rounding's Lin.antt. Assumes nothing.
 use Prim.Native.Nat.{ℕ, suc, _+_, _-_, _*_, _/_, _^_, _≤_, _<_}
 use mathlib.Core.Path.{_≡_, refl, ap, _∙_}
 use mathlib.Core.Bool.{Bool, true, false, cond}
@@ -37,6 +38,26 @@ sum-fits a b f g = abs-fits w64 (a +ℤ b) {k = 2 ^ 16} (omega (arith, add-le a 
 
 pub difference-fits : (a b : ℤ) → SFits w16 a → SFits w16 b → SFits w64 (a -ℤ b)
 difference-fits a b f g = abs-fits w64 (a -ℤ b) {k = 2 ^ 16} (omega (arith, add-le a (negℤ b), abs-negℤ b, fits-abs f, fits-abs g)) (lit< tt)
+
+-- an operation on two i16 that are cast to i64s: what it asks, and what the machine holds of it
+abbrev pub cast : ℤ → ℤ
+cast z = toZ w64 (ofZ w64 (toZ w16 (ofZ w16 z)))
+
+module _ (op : ℤ → ℤ → ℤ) {a b : ℤ} (f : SFits w16 a) (g : SFits w16 b) (h : SFits w64 (op a b)) where
+  cast-fits : SFits w64 (op (cast a) (cast b))
+  cast-fits = rw (wide f, wide g) h
+
+  pub cast-held : toZ w64 (ofZ w64 (op (cast a) (cast b))) ≡ op a b
+  cast-held = toZ-ofZ cast-fits ∙ rw (wide f, wide g)
+
+pub cast-sum : {a b : ℤ} → SFits w16 a → SFits w16 b → SFits w64 (cast a +ℤ cast b)
+cast-sum {a} {b} f g = cast-fits _+ℤ_ f g (sum-fits a b f g)
+
+pub cast-difference : {a b : ℤ} → SFits w16 a → SFits w16 b → SFits w64 (cast a -ℤ cast b)
+cast-difference {a} {b} f g = cast-fits _-ℤ_ f g (difference-fits a b f g)
+
+pub cast-product : {a b : ℤ} → SFits w16 a → SFits w16 b → SFits w64 (cast a *ℤ cast b)
+cast-product {a} {b} f g = cast-fits _*ℤ_ f g (product-fits a b f g)
 
 -- ---- sat16: the identity in range, always in range, and monotone
 pub sat-same : (x : ℤ) → SFits w16 x → sat16Of x ≡ x
@@ -87,7 +108,13 @@ shr-only y z m M h k =
 pub round-is : (x : ℤ) (s : ℕ) → (s ≡ 0 → ⊥) → s < 63 → up x + 2 ^ (s - 1) ≤ dn x + 9223372036854775807 → roundShiftOf x s ≡ shrZ (x +ℤ pos (2 ^ (s - 1))) (2 ^ s)
 unfolding roundShiftOf
 round-is x s n l h =
-    rw (ne-eqb s 0 n, lt-leb 63 s l, lt-no-in (pos 9223372036854775807) (x +ℤ pos (2 ^ (s - 1))) (omega (arith, add-law x (pos (2 ^ (s - 1))))))
+    rw (ne-eqb s 0 n)
+    (ap (λ (t : Bool). cond t (cond (ltZ x (pos 0)) (negsuc 0) (pos 0)) (shrZ (stop64 (x +ℤ pos (2 ^ (s - 1)))) (2 ^ s)))
+    (lt-leb 63 s l)
+    ∙ ap (λ (z : ℤ). shrZ z (2 ^ s)) (not-stopped (x +ℤ pos (2 ^ (s - 1))) (omega (arith, add-law x (pos (2 ^ (s - 1)))))))
+  where
+    not-stopped : (z : ℤ) → up z ≤ dn z + 9223372036854775807 → stop64 z ≡ z
+    not-stopped z h = rw (lt-no-in (pos 9223372036854775807) z (omega arith))
 
 -- it is x / 2^s cut by the rule `halfUp`: m is 2 * h
 abbrev below0 : ℤ → Bool

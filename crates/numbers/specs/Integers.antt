@@ -1,4 +1,5 @@
--- Whole numbers: limits, the rounding shift, Q15 products and sums, phases. Source: document 01, "Number helpers" and "all phase arithmetic modulo 2^32". Definitions only.
+-- Whole numbers: limits, the rounding shift, Q15 products and sums, phases. Source: document 01, "Number
+-- helpers" and "all phase arithmetic modulo 2^32". Definitions only.
 use Prim.Native.Nat.{ℕ, suc, _-_, _*_, _%_, _^_}
 use mathlib.Core.Bool.{cond}
 use lib.Dec.{eqb, leb}
@@ -13,7 +14,8 @@ sat16Of x = cond (ltZ (pos 32767) x) (pos 32767) (cond (ltZ x (negsuc 32767)) (n
 abbrev pub stop64 : ℤ → ℤ
 stop64 x = cond (ltZ (pos 9223372036854775807) x) (pos 9223372036854775807) x
 
--- x plus 2^(s-1), stopping at the largest i64, then divided by 2^s towards minus infinity (`shrZ`); s of 0 gives x; s of 63 or more gives -1 below 0, else 0
+-- x plus 2^(s-1), stopping at the largest i64, then divided by 2^s towards minus infinity (`shrZ`); s of 0
+-- gives x; s of 63 or more gives -1 below 0, else 0
 unfoldable pub roundShiftOf : ℤ → ℕ → ℤ
 roundShiftOf x s =
     cond (eqb s 0) x

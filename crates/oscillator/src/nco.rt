@@ -2,14 +2,19 @@
 ghost use mathlib.Core.Path.{_≡_};
 ghost use Rattle.oscillator.specs.Oscillator.{
   incrementOf,
-  newBy,
-  setBy,
+  incrementFor,
+  fresh,
+  newOf,
+  setFrequencyOf,
   phaseSet,
   advanceOf,
-  turnOf,
+  saysIncrement,
+  saysNew,
+  saysSet,
 };
 
 // The phase before the next sample, and what each sample adds to it.
+#[repr(C)]
 pub struct Nco {
     pub phase: u32,
     pub inc: u32,
@@ -17,7 +22,7 @@ pub struct Nco {
 
 // An increment, or the number of the refusal.
 pub enum Increment {
-    Turn(u32),
+    Made(u32),
     Refused(u32),
 }
 
@@ -34,8 +39,8 @@ pub enum SetNco {
 }
 
 // The increment of a finite number of cycles a sample.
-pub fn turn(cycles: f64) -> u32
-    ensures { λ r. ⌜ r ≡ turnOf cycles ⌝ }
+pub fn increment_of(cycles: f64) -> u32
+    ensures { λ r. ⌜ r ≡ incrementOf cycles ⌝ }
 {
     let frac = cycles - floats::bits::floor_f64(cycles);
     let scaled = floats::bits::half_even_f64(frac * 4294967296.0);
@@ -44,42 +49,39 @@ pub fn turn(cycles: f64) -> u32
 
 // The increment of a frequency at a rate.
 pub fn increment_for(freq: f64, rate: f64) -> Increment
-    ensures { λ r. ⌜ r ≡ incrementOf freq rate ⌝ }
+    ensures { λ r. ⌜ saysIncrement r ≡ incrementFor freq rate ⌝ }
 {
-    if !floats::bits::is_finite_f64(rate) {
-        return Increment::Refused(1);
-    }
-    if !(rate > 0.0) {
+    if !floats::bits::is_positive_f64(rate) {
         return Increment::Refused(1);
     }
     let cycles = freq / rate;
     if !floats::bits::is_finite_f64(cycles) {
         return Increment::Refused(17);
     }
-    Increment::Turn(turn(cycles))
+    Increment::Made(increment_of(cycles))
 }
 
 impl Nco {
     pub fn new(freq: f64, rate: f64) -> NewNco
-        ensures { λ r. ⌜ r ≡ newBy (incrementOf freq rate) ⌝ }
+        ensures { λ r. ⌜ saysNew r ≡ newOf freq rate ⌝ }
     {
         match increment_for(freq, rate) {
-            Increment::Turn(inc) => NewNco::Made(Nco { phase: 0, inc }),
+            Increment::Made(inc) => NewNco::Made(Nco { phase: 0, inc }),
             Increment::Refused(n) => NewNco::Refused(n),
         }
     }
 
     pub fn from_increment(inc: u32) -> Nco
-        ensures { λ r. ⌜ r ≡ record { phase = 0; inc = inc } ⌝ }
+        ensures { λ r. ⌜ r ≡ fresh inc ⌝ }
     {
         Nco { phase: 0, inc }
     }
 
     pub fn set_frequency(self, freq: f64, rate: f64) -> SetNco
-        ensures { λ r. ⌜ r ≡ setBy self (incrementOf freq rate) ⌝ }
+        ensures { λ r. ⌜ saysSet r ≡ setFrequencyOf self freq rate ⌝ }
     {
         match increment_for(freq, rate) {
-            Increment::Turn(inc) => SetNco::Done(Nco {
+            Increment::Made(inc) => SetNco::Done(Nco {
                 phase: self.phase,
                 inc,
             }),

@@ -81,7 +81,8 @@ module _ {a b : ℤ} {k : ℕ} (n : Neighbours a b k) where
       let g = fit-out between-fits in
       abs-in 65535 q (omega arith) (omega arith)
 
--- ---- what a width of 32 bits or more holds of these numbers: `of z` of a number z that was worked out, `entry z` of an entry of the table
+-- ---- what a width of 32 bits or more holds of these numbers: `of z` of a number z that was worked out,
+-- `entry z` of an entry of the table
 module _ (w : Width) (room : T (leb 31 (hbits w))) where
   abbrev of : ℤ → ℤ
   of z = toZ w (ofZ w z)

@@ -1,4 +1,5 @@
--- The f32 lookup as the code works it out: the fraction of a phase, and the entry a quarter of a turn back. Assumes nothing.
+-- The f32 lookup as the code works it out: the fraction of a phase, and the entry a quarter of a turn back.
+-- Assumes nothing.
 use Prim.Native.Nat.{ℕ, _+_, _/_, _%_, _^_, _≤_, _<_}
 use mathlib.Core.Path.{_≡_, refl, ap, _∙_}
 use mathlib.Core.Bool.{false}

@@ -1,3 +1,4 @@
 pub mod Cosine
 pub mod Between
 pub mod Quick
+pub mod Free

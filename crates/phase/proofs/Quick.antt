@@ -1,4 +1,5 @@
--- The floor modulo 2^32 by one sum: v + 1.5 times 2^52 is rounded to a whole number, whose low digits are those of the nearest one to v, and one less where that lies above v. Assumes nothing.
+-- The floor modulo 2^32 by one sum: v + 1.5 times 2^52 is rounded to a whole number, whose low digits are
+-- those of the nearest one to v, and one less where that lies above v. Assumes nothing.
 use Prim.Native.Nat.{ℕ, zero, suc, _+_, _-_, _*_, _/_, _%_, _^_, _≤_, _<_}
 use mathlib.Core.Path.{_≡_, refl, sym, ap, _∙_}
 use mathlib.Core.Bool.{Bool, true, false, not, _&&_, cond, false≢true}

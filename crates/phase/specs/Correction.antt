@@ -1,4 +1,5 @@
--- The phase correction. Source: document 01, "Phase correction"; fallback/modulate.rs for the quick way's range. Definitions only.
+-- The phase correction. Source: document 01, "Phase correction"; fallback/modulate.rs for the quick way's
+-- range. Definitions only.
 use Prim.Native.Nat.{ℕ, _^_}
 use mathlib.Core.Bool.{Bool, true, false, _&&_, cond}
 use lib.IntN.{pos, negsuc}

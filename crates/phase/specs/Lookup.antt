@@ -1,4 +1,5 @@
--- The cosine of a phase from a lent table. Source: document 01, "Cosine lookup"; where a table lacks an entry, reference/stereo.rs (`pair`: both entries count as 0). Definitions only.
+-- The cosine of a phase from a lent table. Source: document 01, "Cosine lookup"; where a table lacks an entry,
+-- reference/stereo.rs (`pair`: both entries count as 0). Definitions only.
 -- A phase is a number below 2^32, one turn being 2^32.
 use Prim.Native.Nat.{ℕ, _+_, _-_, _/_, _%_, _^_}
 use mathlib.Core.Bool.{false, cond}

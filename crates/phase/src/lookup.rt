@@ -7,6 +7,7 @@ ghost use Rattle.phase.specs.Lookup.{sineAt, cosF32, pairF32, cosQ15};
 pub const QUARTER: u32 = 1073741824;
 
 // The cosine and the sine of a phase.
+#[repr(C)]
 pub struct Pair {
     pub c: f32,
     pub s: f32,

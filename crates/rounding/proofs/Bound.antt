@@ -1,4 +1,5 @@
--- Bounds by monotone rounding, for values of either sign: `Within n x` says that x is finite and at most n in size. Assumes nothing.
+-- Bounds by monotone rounding, for values of either sign: `Within n x` says that x is finite and at most n in
+-- size. Assumes nothing.
 use mathlib.Core.Path.{_≡_, sym, ap, _∙_, subst}
 use Prim.Native.Nat.{ℕ, zero, suc, _+_, _-_, _*_, _/_, _^_, _≤_, _<_}
 use native.Mathlib.Nat.{le-trans, le-of-eq, le-of-lt, mul-one, mul-comm, mul-assoc, mul-right-comm, mul-mul-mul-comm, mul-le-mul-right, mul-le-mul, mul-pos, add-mul, le-of-mul-le-mul-right}

@@ -1,4 +1,5 @@
--- The laws of a cut, over the rule: what falls off, that equal fractions are cut alike, what the rules mean, and that `closest`, by which `round` works, is one of them. Assumes nothing.
+-- The laws of a cut, over the rule: what falls off, that equal fractions are cut alike, what the rules mean,
+-- and that `closest`, by which `round` works, is one of them. Assumes nothing.
 use Prim.Native.Nat.{ℕ, _+_, _*_, _/_, _%_, _≤_, _<_, compare, Ordering, Ordering·lt, Ordering·eq, Ordering·gt}
 use mathlib.Core.Path.{_≡_, refl, sym, ap, _∙_, subst}
 use mathlib.Core.Bool.{Bool, true, false, not, cond}

@@ -7,3 +7,4 @@ pub mod Own
 pub mod Finite
 pub mod Bound
 pub mod Order
+pub mod Exact

@@ -1,5 +1,7 @@
--- Linear arithmetic on ℤ by `omega`, which reads ℕ alone. `up z` and `dn z` are z's part above 0 and its part below 0: z is up z − dn z.
--- A law turns a sum, a test or a fit into a linear fact of these numbers, which goes into `omega`'s list; a law that ends `-in` goes back. Assumes nothing.
+-- Linear arithmetic on ℤ by `omega`, which reads ℕ alone. `up z` and `dn z` are z's part above 0 and its part
+-- below 0: z is up z − dn z.
+-- A law turns a sum, a test or a fit into a linear fact of these numbers, which goes into `omega`'s list; a
+-- law that ends `-in` goes back. Assumes nothing.
 use Prim.Native.Nat.{ℕ, zero, suc, _+_, _-_, _*_, _/_, _^_, _<_, _≤_}
 use mathlib.Core.Path.{_≡_, refl, sym, ap, _∙_, subst}
 use mathlib.Core.Bool.{Bool, true, false, cond, true≢false, false≢true}
@@ -190,7 +192,8 @@ pub dn-mul : (k : ℕ) (z : ℤ) → dn (pos k *ℤ z) ≡ k * dn z
 dn-mul k (pos n) = sym (mul-zero k)
 dn-mul k (negsuc n) = dn-neg (pos (k * suc n))
 
--- ---- a signed number that fits, written to bits and read back. `c .f .ok`, `c .struct-told .given ..` and `c .f-arg .given` are such bounds on `mag`
+-- ---- a signed number that fits, written to bits and read back. `c .f .ok`, `c .struct-told .given ..` and `c
+-- .f-arg .given` are such bounds on `mag`
 pub back : (w : Width) (z : ℤ) → mag z < 2 ^ hbits w → toZ w (ofZ w z) ≡ z
 back w z h = toZ-ofZ (record { sfits = h })
 

@@ -1,5 +1,7 @@
--- A number cut at a place, by what falls off: the one account of rounding that floor, half-even, the conversions and `round_shift` share.
--- Sources: IEEE 754-2019, 4.3.1 (roundTiesToEven) and 4.3.2 (roundTowardNegative); document 01, "Number helpers". Definitions only.
+-- A number cut at a place, by what falls off: the one account of rounding that floor, half-even, the
+-- conversions and `round_shift` share.
+-- Sources: IEEE 754-2019, 4.3.1 (roundTiesToEven) and 4.3.2 (roundTowardNegative); document 01, "Number
+-- helpers". Definitions only.
 use Prim.Native.Nat.{ℕ, _+_, _*_, _/_, _%_, _≤_, _<_}
 use mathlib.Core.Bool.{Bool, true, false, not, cond}
 use mathlib.Core.Logic.{_⊎_}
@@ -21,11 +23,13 @@ restBy false true = less
 restBy true false = half
 restBy true true = more
 
--- `downward`: towards minus infinity. `halfEven`: to the nearest, a half to the even number. `halfUp`: to the nearest, a half towards plus infinity.
+-- `downward`: towards minus infinity. `halfEven`: to the nearest, a half to the even number. `halfUp`: to the
+-- nearest, a half towards plus infinity.
 pub data Rule : Type 0 where
   downward halfEven halfUp : Rule
 
--- whether the size grows by one: by the sign (true is negative), by whether the size that is kept is odd, and by what falls off
+-- whether the size grows by one: by the sign (true is negative), by whether the size that is kept is odd, and
+-- by what falls off
 abbrev pub grows : Rule → Bool → Bool → Rest → Bool
 grows r neg odd none = false
 grows downward neg odd less = neg

@@ -4,7 +4,7 @@ use decoder_record::pll_f32::StereoPllF32;
 ghost use mathlib.Core.Path.{_≡_};
 ghost use Rattle.answers.specs.Answer.{says};
 ghost use Rattle.decoder.specs.Machine.{blockOf};
-ghost use Rattle.decoder.specs.Formats.{f32};
+ghost use Rattle.decoder.specs.F32.{f32};
 ghost use Rattle.decoder_record.specs.Records.{pllF32};
 
 // A block, the fast way.
@@ -16,9 +16,16 @@ pub fn block(
     sum: &mut [f32],
     difference: &mut [f32],
 ) -> Answer
-    ensures { λ a. ⌜ record { said = says a; sum = now (sum .exit); difference = now (difference .exit); pll = pllF32 (now (d .exit)) } ≡ blockOf f32 (pllF32 (now (d .entry))) (now (table .entry)) (now (mpx .entry)) (now (pilot .entry)) (now (sum .entry)) (now (difference .entry)) ⌝ }
+    ensures { λ a. ⌜ record {
+      said = says a;
+      sum = now (sum .exit);
+      difference = now (difference .exit);
+      pll = pllF32 (now (d .exit));
+    }
+        ≡ blockOf f32 (pllF32 (now (d .entry))) (now (table .entry)) (now (mpx .entry)) (now (pilot .entry))
+        (now (sum .entry)) (now (difference .entry)) ⌝ }
 {
-    let o = decoder::fast_f32::block(*d, table, mpx, pilot, sum, difference);
+    let o = decoder::fast::block(*d, table, mpx, pilot, sum, difference);
     *d = o.decoder;
     o.answer
 }

@@ -7,14 +7,14 @@ use crate::show::refused;
 use crate::show::said;
 use crate::show::sample;
 use crate::show::signed;
-use decoder::parts_f32::ReplyF32;
-use decoder::parts_q15::ReplyQ15;
-use test_lines::words::f32_of;
-use test_lines::words::word_f32;
+use decoder::parts::ReplyF32;
+use decoder_q15::parts::ReplyQ15;
 use decoder_record::pll_f32::NewF32;
 use decoder_record::pll_f32::StereoPllF32;
 use decoder_record::pll_q15::NewQ15;
 use decoder_record::pll_q15::StereoPllQ15;
+use test_lines::words::f32_of;
+use test_lines::words::word_f32;
 ghost use mathlib.Core.Path.{_≡_};
 ghost use Prim.Native.Nat.{_≤_};
 ghost use lib.ListN.{length};
@@ -136,8 +136,8 @@ fn block_f32(
     difference: &mut [f32],
 ) {
     label(name);
-    shown_f32(decoder::plain_f32::block(d, table, mpx, pilot, sum, difference));
-    shown_f32(decoder::fast_f32::block(d, table, mpx, pilot, sum, difference));
+    shown_f32(decoder::plain::block(d, table, mpx, pilot, sum, difference));
+    shown_f32(decoder::fast::block(d, table, mpx, pilot, sum, difference));
     done();
 }
 
@@ -151,8 +151,8 @@ fn block_q15(
     difference: &mut [i16],
 ) {
     label(name);
-    shown_q15(decoder::plain_q15::block(d, table, mpx, pilot, sum, difference));
-    shown_q15(decoder::fast_q15::block(d, table, mpx, pilot, sum, difference));
+    shown_q15(decoder_q15::plain::block(d, table, mpx, pilot, sum, difference));
+    shown_q15(decoder_q15::fast::block(d, table, mpx, pilot, sum, difference));
     done();
 }
 

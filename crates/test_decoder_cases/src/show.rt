@@ -1,5 +1,6 @@
 // What the cases write.
 use answers::answer::Answer;
+use answers::answer::code_of;
 use libc::STDOUT_FILENO;
 
 pub(crate) fn label(text: &[u8]) {
@@ -40,12 +41,12 @@ pub(crate) fn refused(n: u32) {
 
 // A block's answer, with its lengths.
 pub(crate) fn said(a: Answer) {
-    let w = c_answers::words(a);
-    if w[0] == 0 {
+    let c = code_of(a);
+    if c.code == 0 {
         io::write_all(STDOUT_FILENO, b" accepted");
         return;
     }
-    refused((w[0] % 100) as u32);
-    number(w[1] as u64);
-    number(w[2] as u64);
+    refused(c.code % 100);
+    number(c.expected as u64);
+    number(c.got as u64);
 }

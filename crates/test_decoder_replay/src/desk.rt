@@ -2,9 +2,9 @@
 // each format.
 use crate::session_f32::PairF32;
 use crate::session_q15::PairQ15;
-use test_lines::tally::Tally;
 use decoder_record::pll_f32::StereoPllF32;
 use decoder_record::pll_q15::StereoPllQ15;
+use test_lines::tally::Tally;
 
 pub struct Desk {
     pub tally: Tally,

@@ -3,14 +3,14 @@ use crate::lengths::length;
 use crate::names;
 use crate::words12;
 use answers::answer::Answer;
-use decoder::parts_f32::ReplyF32;
+use decoder::parts::ReplyF32;
+use decoder_record::pll_f32::NewF32;
+use decoder_record::pll_f32::StereoPllF32;
 use test_lines::words::f32_of;
 use test_lines::words::f64_of;
 use test_lines::words::u32_of;
 use test_lines::words::word_f32;
 use test_lines::words::word_u32;
-use decoder_record::pll_f32::NewF32;
-use decoder_record::pll_f32::StereoPllF32;
 
 // What a call answers, and the decoder after it.
 pub struct TurnF32 {
@@ -150,9 +150,9 @@ fn either(
     difference: &mut [f32],
 ) -> ReplyF32 {
     if fast {
-        return decoder::fast_f32::block(d, table, mpx, pilot, sum, difference);
+        return decoder::fast::block(d, table, mpx, pilot, sum, difference);
     }
-    decoder::plain_f32::block(d, table, mpx, pilot, sum, difference)
+    decoder::plain::block(d, table, mpx, pilot, sum, difference)
 }
 
 // The outputs hold 9 before the block.

@@ -3,15 +3,15 @@ use crate::lengths::length;
 use crate::names;
 use crate::words12;
 use answers::answer::Answer;
-use decoder::parts_q15::ReplyQ15;
+use decoder_q15::parts::ReplyQ15;
+use decoder_record::pll_q15::NewQ15;
+use decoder_record::pll_q15::StereoPllQ15;
 use test_lines::words::f64_of;
 use test_lines::words::i16_of;
 use test_lines::words::i64_of;
 use test_lines::words::u32_of;
 use test_lines::words::word_i64;
 use test_lines::words::word_u32;
-use decoder_record::pll_q15::NewQ15;
-use decoder_record::pll_q15::StereoPllQ15;
 
 // What a call answers, and the decoder after it.
 pub struct TurnQ15 {
@@ -154,9 +154,9 @@ fn either(
     difference: &mut [i16],
 ) -> ReplyQ15 {
     if fast {
-        return decoder::fast_q15::block(d, table, mpx, pilot, sum, difference);
+        return decoder_q15::fast::block(d, table, mpx, pilot, sum, difference);
     }
-    decoder::plain_q15::block(d, table, mpx, pilot, sum, difference)
+    decoder_q15::plain::block(d, table, mpx, pilot, sum, difference)
 }
 
 // The outputs hold 9 before the block.

@@ -1,6 +1,7 @@
 // The twelve words that a call answers, and digests of longer lists. A decoder's record is the
 // words 1 to 11, in either format: six gains, step0, phase, integrator, level, switches.
 use answers::answer::Answer;
+use answers::answer::code_of;
 use test_lines::words::word_f64;
 
 // The digest of a list of words, one word further: the list's value in base 1000003, modulo the
@@ -60,11 +61,11 @@ pub(crate) fn left(
     limit: f64,
     level: f64,
 ) -> [u64; 12] {
-    let said = c_answers::words(a);
+    let said = code_of(a);
     [
-        said[0] as u64,
-        said[1] as u64,
-        said[2] as u64,
+        said.code as u64,
+        said.expected as u64,
+        said.got as u64,
         sum,
         difference,
         gains(r),

@@ -1,5 +1,7 @@
--- A value and the word of 64 bits that stands for it in a list. Source: oracle/README.md, "The list of answers". Definitions only.
--- A float's word is its pattern, the kit's `toBits`, which has one pattern for every NaN; the kit's `ofBits` takes it back, and each NaN's pattern to the one NaN.
+-- A value and the word of 64 bits that stands for it in a list. Source: oracle/README.md, "The list of
+-- answers". Definitions only.
+-- A float's word is its pattern, the kit's `toBits`, which has one pattern for every NaN; the kit's `ofBits`
+-- takes it back, and each NaN's pattern to the one NaN.
 use Prim.Native.Nat.{ℕ, _-_, _%_, _^_}
 use mathlib.Core.Bool.{Bool, cond}
 use lib.Dec.{eqb, ltb}

@@ -1,4 +1,5 @@
--- The samples that both sides of a list make from a word. Sources: oracle/README.md, "The list of answers of the decoder" (the kinds); oracle/decoder/src/samples.rs (each kind's formula);
+-- The samples that both sides of a list make from a word. Sources: oracle/README.md, "The list of answers of
+-- the decoder" (the kinds); oracle/decoder/src/samples.rs (each kind's formula);
 -- oracle/stereo/src/samples.rs (`mixed`, and the same rule of a seed alone). Definitions only.
 use Prim.Native.Nat.{ℕ, _+_, _*_, _/_, _%_, _^_}
 use mathlib.Core.Bool.{false, cond}
@@ -21,7 +22,8 @@ mixedOf n =
 unfoldable pub drawnOf : ℕ → ℕ → ℕ
 drawnOf spec i = mixedOf (spec % 2 ^ 32 + i)
 
--- a pattern: v's bit 31 as the sign, the exponent from 2^-8 to 2^-1 by its three lowest bits, the next 23 as the digits
+-- a pattern: v's bit 31 as the sign, the exponent from 2^-8 to 2^-1 by its three lowest bits, the next 23 as
+-- the digits
 unfoldable pub calmOf : ℕ → ℕ
 calmOf v = v / 2 ^ 31 % 2 * 2 ^ 31 + (119 + v % 8) * 2 ^ 23 + v / 8 % 2 ^ 23
 
@@ -43,7 +45,8 @@ triangleOf i =
 unfoldable pub anyOf : ℕ → Float
 anyOf w = lowF32 (cond (eqb (w % 8) 0) (mixedOf w) (calmOf (mixedOf w)))
 
--- the i-th sample of a word: the kind stands above 32 bits, 1 a triangle, 2 one value, 3 sizes from 2^-8 to 1, else any
+-- the i-th sample of a word: the kind stands above 32 bits, 1 a triangle, 2 one value, 3 sizes from 2^-8 to 1,
+-- else any
 unfoldable pub sampleF32Of : ℕ → ℕ → Float
 sampleF32Of spec i =
     let kind = spec / 2 ^ 32 in

@@ -11,16 +11,16 @@ use encoder_record::rds::NewEncodeRds;
 use encoder_record::rds::SetEncodeRds;
 use encoder_record::rds::StereoEncodeRds;
 use libc::STDOUT_FILENO;
-use test_lines::words::f32_of;
 use oscillator::nco::Increment;
 use oscillator::nco::Nco;
 use oscillator::nco::NewNco;
 use oscillator::nco::SetNco;
+use test_lines::words::f32_of;
 
 fn increment(name: &[u8], freq: f64, rate: f64) {
     line(name);
     match oscillator::nco::increment_for(freq, rate) {
-        Increment::Turn(inc) => number(inc as u64),
+        Increment::Made(inc) => number(inc as u64),
         Increment::Refused(n) => refusal(n),
     }
     done();

@@ -4,27 +4,22 @@ use crate::cases::an_encoder;
 use crate::write::done;
 use crate::write::line;
 use crate::write::number;
+use crate::write::refusal;
 use answers::answer::Answer;
+use answers::answer::code_of;
 use encoder_record::rds::StereoEncodeRds;
 use libc::STDOUT_FILENO;
 
-fn lengths(n: u64, first: usize, at: usize) {
-    io::write_all(STDOUT_FILENO, b" refused by");
-    number(n);
-    number(first as u64);
-    number(at as u64);
-}
-
+// A block's answer, with its lengths.
 fn said(a: Answer) {
-    match a {
-        Answer::Accepted => {
-            io::write_all(STDOUT_FILENO, b" accepted");
-        }
-        Answer::Unfit => lengths(0, 0, 0),
-        Answer::Table(n) => lengths(9, 4097, n),
-        Answer::Input(first, n) => lengths(10, first, n),
-        Answer::Output(first, n) => lengths(11, first, n),
+    let c = code_of(a);
+    if c.code == 0 {
+        io::write_all(STDOUT_FILENO, b" accepted");
+        return;
     }
+    refusal(c.code % 100);
+    number(c.expected as u64);
+    number(c.got as u64);
 }
 
 // Slices of four and of three samples where the name says so.

@@ -10,9 +10,9 @@ use encoder_record::encode::StereoEncode;
 use encoder_record::rds::NewEncodeRds;
 use encoder_record::rds::SetEncodeRds;
 use encoder_record::rds::StereoEncodeRds;
-use test_lines::words;
 use oscillator::nco::Increment;
 use oscillator::nco::Nco;
+use test_lines::words;
 
 // A refusal in the place of an increment is 2^32 and its number.
 fn refused(n: u32) -> u64 {
@@ -24,7 +24,7 @@ const TURNED_BACK: u64 = 18446744073709551615;
 
 fn increment_for(freq: f64, rate: f64) -> u64 {
     match oscillator::nco::increment_for(freq, rate) {
-        Increment::Turn(inc) => words::word_u32(inc),
+        Increment::Made(inc) => words::word_u32(inc),
         Increment::Refused(n) => refused(n),
     }
 }

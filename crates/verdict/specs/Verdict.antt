@@ -1,15 +1,15 @@
--- The on-air verdict. Sources: document 01, "Added: an on-air verdict"; ITU-R BS.450 (a pilot of 8 to 10 per cent). Definitions only.
-use mathlib.Core.Bool.{Bool, false}
-use lib.IntN.{negsuc}
-use lib.Ieee.{Float, fin}
-use Rattle.floats.specs.Floats.{inRange}
+-- The on-air verdict. Sources: document 01, "Added: an on-air verdict"; ITU-R BS.450 (a pilot of 8 to 10 per
+-- cent). Definitions only.
+use mathlib.Core.Bool.{Bool}
+use lib.Ieee.{Float, binary32}
+use Rattle.floats.specs.Floats.{nearest, inRange}
 
--- the f32 nearest 0.08 (pattern 0x3DA3D70A) and nearest 0.1 (0x3DCCCCCD)
+-- the f32 nearest 0.08, and that nearest 0.1
 abbrev pub eight : Float
-eight = fin false 5368709 (negsuc 25)
+eight = nearest binary32 8 100
 
 abbrev pub ten : Float
-ten = fin false 13421773 (negsuc 26)
+ten = nearest binary32 10 100
 
 -- by the amplitude alone, at any frequency
 unfoldable pub onAirOf : Float → Float → Bool

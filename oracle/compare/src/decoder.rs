@@ -2,14 +2,15 @@
 
 use decoder_oracle::answers::{self, Arguments, Block, Call, Format, Outcome, field_words};
 use decoder_oracle::inputs::{self, Drawn};
+use ours::decoder::Way;
 use sdrk_core::kernels::stereo::StereoPllState;
 use sdrk_core::probe::Fields;
 use sdrk_core::types::Q15;
 use stereo_oracle::answers::{Side, TABLE};
 use stereo_oracle::inputs::Inputs;
 
-use crate::ours_decoder::{Ours, Record, Way};
 use crate::part::Part;
+use crate::record::{Ours, Record};
 
 /// What a format adds to a session.
 trait Compared: Ours + Drawn {
@@ -64,13 +65,14 @@ struct Session<'a, F: Compared> {
 }
 
 impl<'a, F: Compared> Session<'a, F> {
-    fn new(part: &'a mut Part, begun: String, fields: Fields<F::Value>) -> Self {
+    /// `on` stands in our records for a switch that is on.
+    fn new(part: &'a mut Part, begun: String, fields: Fields<F::Value>, on: u32) -> Self {
         Session {
             part,
             begun,
             calls: 0,
-            plain: Record::from(fields),
-            fast: Record::from(fields),
+            plain: Record::from(fields, on),
+            fast: Record::from(fields, on),
             reference: F::state(fields),
             fallback: F::state(fields),
         }
@@ -142,30 +144,24 @@ impl<'a, F: Compared> Session<'a, F> {
     }
 }
 
-/// One construction, and whether it was accepted: the number, and every field of the record made,
-/// or of the old one where there is none.
-fn construct<F: Compared>(part: &mut Part, r: &mut Inputs, a: Arguments) -> bool {
-    let old = F::any_fields(r);
-    let mut record = Record::<F>::from(old);
-    let code = record.construct(a);
-    if code > 0 {
-        part.refused(code as u64);
-    }
-    let made = answers::new::<F>(a);
-    let fields = made.as_ref().map_or(old, F::fields);
-    let expected = (made.err().unwrap_or(0), field_words::<F>(&fields));
+/// One construction: the code, and every field of the record made, or zeros where there is none.
+fn construct<F: Compared>(part: &mut Part, a: Arguments) {
+    let (code, record) = Record::<F>::construct(a);
+    part.code(code);
+    let expected = match answers::new::<F>(a) {
+        Ok(state) => (0, field_words::<F>(&F::fields(&state))),
+        Err(number) => (100 + number, [0; 12]),
+    };
     part.same(expected, (code, record.words()), || {
         format!("{a:?} {:x?}", a.words())
     });
-    code == 0
 }
 
 fn constructions<F: Compared>(name: &'static str, count: u64) -> bool {
     let mut r = Inputs::new(12);
     let mut part = Part::new(name);
     for _ in 0..count {
-        let a = inputs::arguments(&mut r);
-        construct::<F>(&mut part, &mut r, a);
+        construct::<F>(&mut part, inputs::arguments(&mut r));
     }
     part.report()
 }
@@ -182,9 +178,11 @@ fn constructed<F: Compared>(name: &'static str, count: u64) -> bool {
         };
         if let Ok(state) = answers::new::<F>(a) {
             made += 1;
-            let mut s = Session::<F>::new(&mut part, format!("{a:?}"), F::fields(&state));
+            let mut s = Session::<F>::new(&mut part, format!("{a:?}"), F::fields(&state), 1);
             // the fresh record is our own, too
-            assert_eq!((s.plain.construct(a), s.fast.construct(a)), (0, 0));
+            let (code, record) = Record::construct(a);
+            assert_eq!(code, 0);
+            (s.plain, s.fast) = (record, record);
             s.go(&mut r);
         }
     }
@@ -197,7 +195,8 @@ fn by_hand<F: Compared>(name: &'static str, count: u64) -> bool {
     let mut part = Part::new(name);
     for _ in 0..count {
         let fields = F::any_fields(&mut r);
-        Session::<F>::new(&mut part, format!("{fields:?}"), fields).go(&mut r);
+        let on = [1, 2, 256, 1 << 31, u32::MAX][r.below(5) as usize];
+        Session::<F>::new(&mut part, format!("{fields:?}"), fields, on).go(&mut r);
     }
     part.report()
 }
@@ -211,7 +210,8 @@ fn one_place() -> bool {
             for k in 0..8 {
                 let a = inputs::good_arguments(&mut r);
                 let state = answers::new::<f32>(a).expect("good arguments are accepted");
-                let mut s = Session::<f32>::new(&mut part, format!("{a:?}"), f32::fields(&state));
+                let mut s =
+                    Session::<f32>::new(&mut part, format!("{a:?}"), f32::fields(&state), 1);
                 let mut b = inputs::block_of::<f32>(&mut r, [TABLE, n, n, n, n], &s.fields());
                 b.table = (0..TABLE)
                     .map(|i| (i as f32 / 4096.0 * std::f32::consts::TAU).cos())
@@ -253,7 +253,7 @@ fn near_the_top() -> bool {
             rate: 192000.0,
         };
         let state = answers::new::<Q15>(a).expect("accepted");
-        let mut s = Session::<Q15>::new(&mut part, format!("{a:?}"), Q15::fields(&state));
+        let mut s = Session::<Q15>::new(&mut part, format!("{a:?}"), Q15::fields(&state), 1);
         let n = 1 + k % 3;
         let b = Block {
             table: vec![-32768; TABLE],
@@ -326,8 +326,8 @@ fn history<F: Ruled>(name: &'static str, count: u64) -> bool {
     let mut made = 0;
     while made < count {
         let a = inputs::good_arguments(&mut r);
-        let mut record = Record::<F>::from(F::any_fields(&mut r));
-        if record.construct(a) > 0 {
+        let (code, mut record) = Record::<F>::construct(a);
+        if code > 0 {
             continue;
         }
         made += 1;

@@ -3,16 +3,18 @@
 //!     compare               all that follows but `every`
 //!     compare numbers [N]   for each number helper the boundaries, N random inputs and, of a
 //!                           float, N NaNs; N is 4000000 where it is not given
-//!     compare stereo        lookup, correction, oscillator, matrix, encoders and verdict
+//!     compare stereo [N]    lookup, correction, oscillator, matrix, encoders and verdict, and N
+//!                           sessions of each record (20000)
 //!     compare decoder [N]   the decoder: constructions, and N sessions of each kind (20000)
 //!     compare every         every input of each function whose arguments have 32 bits in all
 //!     compare every-stereo  every f32 of the corrections, every pair of the Q15 matrix
 
 mod decoder;
-mod ours;
-mod ours_decoder;
-mod ours_stereo;
+mod encoder;
+mod numbers;
 mod part;
+mod record;
+mod sessions;
 mod stereo;
 
 use numbers_oracle::edges::edges;
@@ -31,7 +33,7 @@ struct Comparison {
 
 impl Comparison {
     fn new(function: &'static Function) -> Self {
-        let Some(ours) = ours::function(function.name) else {
+        let Some(ours) = numbers::function(function.name) else {
             eprintln!("{}: not in the static library", function.name);
             std::process::exit(1);
         };
@@ -120,12 +122,12 @@ fn compare_every(function: &'static Function) -> bool {
 }
 
 /// Whether no number helper differed.
-fn numbers(compare: impl Fn(&'static Function) -> bool) -> bool {
+fn helpers(compare: impl Fn(&'static Function) -> bool) -> bool {
     FUNCTIONS.iter().fold(true, |equal, f| equal & compare(f))
 }
 
 fn usage() -> ! {
-    eprintln!("usage: compare [numbers [N] | stereo | decoder [N] | every | every-stereo]");
+    eprintln!("usage: compare [numbers [N] | stereo [N] | decoder [N] | every | every-stereo]");
     std::process::exit(2);
 }
 
@@ -138,13 +140,14 @@ fn main() {
         Some(Err(_)) => usage(),
     };
     let some = |f| compare_some(f, count.unwrap_or(4_000_000));
+    let stereo = || stereo::compare(count.unwrap_or(20_000));
     let decoder = || decoder::compare(count.unwrap_or(20_000));
     let equal = match what.as_deref() {
-        None => numbers(some) & stereo::compare() & decoder(),
-        Some("numbers") => numbers(some),
-        Some("stereo") => stereo::compare(),
+        None => helpers(some) & stereo() & decoder(),
+        Some("numbers") => helpers(some),
+        Some("stereo") => stereo(),
         Some("decoder") => decoder(),
-        Some("every") => numbers(compare_every),
+        Some("every") => helpers(compare_every),
         Some("every-stereo") => stereo::every_correction() & stereo::every_matrix_q15(),
         Some(_) => usage(),
     };

@@ -2,7 +2,7 @@
 
 use std::collections::BTreeMap;
 
-use stereo_oracle::answers::{self, ACCEPTED, Said};
+use stereo_oracle::answers::{ACCEPTED, Said};
 
 /// Differences of one part that are printed; the others are counted.
 const SHOWN: u64 = 5;
@@ -49,10 +49,10 @@ impl Part {
         }
     }
 
-    /// Counts an increment's code if it is a refusal.
-    pub fn code(&mut self, code: u64) {
-        if code >= answers::REFUSED {
-            self.refused(code - answers::REFUSED);
+    /// Counts the code of a construction or of a set call if it is a refusal.
+    pub fn code(&mut self, code: u32) {
+        if code > 0 {
+            self.refused(code as u64 - 100);
         }
     }
 

@@ -1,11 +1,17 @@
 //! Lookup, correction, oscillator, matrix, encoders and verdict, compared with the original.
 
 use numbers_oracle::answers::{word_f32, word_i16};
-use stereo_oracle::answers::{self, SIDES, TABLE};
+use ours::decoder::matrix;
+use ours::encoder::{
+    Nco, pescrondilu_nco_advance, pescrondilu_nco_increment_for, pescrondilu_on_air,
+};
+use ours::numbers::{self, pescrondilu_correction_fast, pescrondilu_correction_plain};
+use stereo_oracle::answers::{self, Arguments, Block, Encoder, SIDES, TABLE};
 use stereo_oracle::inputs::{Inputs, Limits, corrections, limits};
 
-use crate::ours_stereo as ours;
+use crate::encoder;
 use crate::part::Part;
+use crate::sessions;
 
 /// Lengths of the blocks.
 const LENGTHS: [usize; 7] = [0, 1, 2, 63, 64, 65, 4096];
@@ -33,17 +39,18 @@ fn lookups() -> bool {
             let of_q15 = || format!("p {p:08x}, entries {} {}", tq[i], tq[i + 1]);
             f32s.same(
                 answers::cos_f32(&tf, p),
-                word_f32(ours::cos_f32(&tf, p)),
+                word_f32(numbers::cos_f32(&tf, p)),
                 of_f32,
             );
+            let pair = numbers::interp_f32_pair(&tf, p);
             pairs.same(
                 answers::pair_f32(&tf, p),
-                ours::pair_f32(&tf, p).map(word_f32),
+                [pair.c, pair.s].map(word_f32),
                 of_f32,
             );
             let q = answers::cos_q15(&tq, p);
-            plain.same(q, word_i16(ours::cos_q15(&tq, p)), of_q15);
-            quick.same(q, ours::interp_q15(&tq, p) as i64 as u64, of_q15);
+            plain.same(q, word_i16(numbers::cos_q15(&tq, p)), of_q15);
+            quick.same(q, numbers::interp_q15(&tq, p) as i64 as u64, of_q15);
         }
     }
     f32s.report() & pairs.report() & plain.report() & quick.report()
@@ -64,8 +71,8 @@ impl Corrections {
 
     fn compare(&mut self, f: f32) {
         let of = || format!("f {:08x}", f.to_bits());
-        let plain = ours::pescrondilu_correction_plain(f);
-        let fast = ours::pescrondilu_correction_fast(f);
+        let plain = pescrondilu_correction_plain(f);
+        let fast = pescrondilu_correction_fast(f);
         self.plain.same(answers::correction_plain(f), plain, of);
         self.fast.same(answers::correction_fallback(f), fast, of);
         if plain != fast {
@@ -104,9 +111,13 @@ fn oscillator() -> bool {
     let mut r = Inputs::new(5);
     let mut inc = Part::new("increment_for");
     let mut compare = |freq: f64, rate: f64| {
-        let got = ours::pescrondilu_increment_for(freq, rate);
-        inc.code(got);
-        inc.same(answers::increment_for(freq, rate), got, || {
+        let got = pescrondilu_nco_increment_for(freq, rate);
+        inc.code(got.code);
+        let expected = match answers::increment_for(freq, rate) {
+            Ok(increment) => (0, increment),
+            Err(number) => (100 + number, 0),
+        };
+        inc.same(expected, (got.code, got.increment), || {
             format!("{:016x} {:016x}", freq.to_bits(), rate.to_bits())
         });
     };
@@ -140,17 +151,17 @@ fn oscillator() -> bool {
             1 => r.u32() as usize,
             _ => r.0.word() as usize,
         };
-        on.same(
-            answers::advance(phase, inc, n),
-            ours::pescrondilu_advance(phase, inc, n),
-            || format!("{phase:08x} {inc:08x} {n}"),
-        );
+        let got = pescrondilu_nco_advance(Nco { phase, inc }, n);
+        let expected = (answers::advance(phase, inc, n), inc);
+        on.same(expected, (got.phase, got.inc), || {
+            format!("{phase:08x} {inc:08x} {n}")
+        });
     }
     inc.report() & on.report()
 }
 
 /// Any of a list.
-fn one<T: Copy>(r: &mut Inputs, list: &[T]) -> T {
+pub fn one<T: Copy>(r: &mut Inputs, list: &[T]) -> T {
     list[r.below(list.len() as u64) as usize]
 }
 
@@ -159,23 +170,17 @@ fn construction() -> bool {
     let l: Limits = limits();
     let mut new = Part::new("encode_new");
     let mut rds = Part::new("encode_rds_new");
-    let mut compare = |f: f64, m: f32, p: f32, b: f32, rate: f64| {
-        let of = || {
-            format!(
-                "{:016x} {:08x} {:08x} {:08x} {:016x}",
-                f.to_bits(),
-                m.to_bits(),
-                p.to_bits(),
-                b.to_bits(),
-                rate.to_bits()
-            )
+    let mut compare = |frequency: f64, main: f32, pilot: f32, rds_level: f32, rate: f64| {
+        let a = Arguments {
+            frequency,
+            main,
+            pilot,
+            rds: rds_level,
+            rate,
         };
-        let got = ours::pescrondilu_encode_new(f, m, p, rate);
-        new.code(got);
-        new.same(answers::encode_new(f, m, p, rate), got, of);
-        let got = ours::pescrondilu_encode_rds_new(f, m, p, b, rate);
-        rds.code(got);
-        rds.same(answers::encode_rds_new(f, m, p, b, rate), got, of);
+        for (part, with_rds) in [(&mut new, false), (&mut rds, true)] {
+            encoder::construct(part, a, with_rds);
+        }
     };
     // each argument's limits with the others good, then any of all
     l.frequency
@@ -210,6 +215,7 @@ fn setters() -> bool {
     let mut r = Inputs::new(7);
     let levels = limits().level;
     let mut pilot = Part::new("set_pilot");
+    let mut rds_pilot = Part::new("rds_set_pilot");
     let mut rds = Part::new("set_rds");
     for k in 0..1_000_000usize {
         let fields = r.fields(false);
@@ -218,26 +224,11 @@ fn setters() -> bool {
             None if k % 2 == 0 => one(&mut r, &levels),
             None => r.f32(),
         };
-        let of = || format!("{fields:?} to {:08x}", to.to_bits());
-        for (part, expected, got) in [
-            (
-                &mut pilot,
-                answers::set_pilot(fields, to),
-                ours::set_pilot(fields, to),
-            ),
-            (
-                &mut rds,
-                answers::set_rds(fields, to),
-                ours::set_rds(fields, to),
-            ),
-        ] {
-            if got.0 != 0 {
-                part.refused(got.0 as u64);
-            }
-            part.same(expected, got, of);
-        }
+        encoder::set(&mut pilot, fields, false, encoder::Call::Pilot(to));
+        encoder::set(&mut rds_pilot, fields, true, encoder::Call::Pilot(to));
+        encoder::set(&mut rds, fields, true, encoder::Call::Rds(to));
     }
-    pilot.report() & rds.report()
+    pilot.report() & rds_pilot.report() & rds.report()
 }
 
 /// The document's rule, since the original has no verdict.
@@ -245,8 +236,8 @@ fn verdict() -> bool {
     let mut r = Inputs::new(8);
     let mut part = Part::new("on_air");
     let mut compare = |f: f64, a: f32| {
-        let expected = (0.08f32..=0.1f32).contains(&a);
-        part.same(expected, ours::pescrondilu_on_air(f, a), || {
+        let expected = (0.08f32..=0.1f32).contains(&a) as u32;
+        part.same(expected, pescrondilu_on_air(f, a), || {
             format!("{:08x}", a.to_bits())
         });
     };
@@ -298,7 +289,7 @@ fn matrix_f32() -> bool {
         let calm = k % 3 == 0;
         let [sum, difference, left, right] = n.map(|m| r.block_f32(m, calm));
         let (mut l, mut ri) = (left.clone(), right.clone());
-        let said = ours::matrix_f32(&sum, &difference, &mut l, &mut ri);
+        let said = matrix(&sum, &difference, &mut l, &mut ri).numbers();
         let words = |x: &[f32]| x.iter().map(|y| word_f32(*y)).collect::<Vec<_>>();
         part.said(said);
         for side in SIDES {
@@ -326,7 +317,7 @@ fn matrix_q15() -> bool {
     for n in &all {
         let [sum, difference, left, right] = n.map(|m| r.block_i16(m));
         let (mut l, mut ri) = (left.clone(), right.clone());
-        let said = ours::matrix_q15(&sum, &difference, &mut l, &mut ri);
+        let said = matrix(&sum, &difference, &mut l, &mut ri).numbers();
         let words = |x: &[i16]| x.iter().map(|y| word_i16(*y)).collect::<Vec<_>>();
         part.said(said);
         for side in SIDES {
@@ -353,7 +344,7 @@ pub fn every_matrix_q15() -> bool {
     let (mut left, mut right) = (all.clone(), all.clone());
     for s in i16::MIN..=i16::MAX {
         let sum = vec![s; all.len()];
-        let said = ours::matrix_q15(&sum, &all, &mut left, &mut right);
+        let said = matrix(&sum, &all, &mut left, &mut right).numbers();
         for side in SIDES {
             let e = answers::matrix_q15(side, &sum, &all, &left, &right);
             part.same(e.said, said, || format!("{side:?} {s}"));
@@ -372,7 +363,7 @@ pub fn every_matrix_q15() -> bool {
 /// Tables' lengths that are wrong, and the one that is not.
 const TABLES: [usize; 7] = [TABLE, TABLE, TABLE, 4096, 4098, 0, 8194];
 
-/// The encoder, with RDS or without.
+/// The encoder, with RDS or without, on records of any fields.
 fn encoder(name: &'static str, with_rds: bool) -> bool {
     let mut r = Inputs::new(11);
     let mut part = Part::new(name);
@@ -387,32 +378,23 @@ fn encoder(name: &'static str, with_rds: bool) -> bool {
         let table = r.block_f32(entries, calm);
         let fields = r.fields(calm);
         let [left, right, rds, output] = n.map(|m| r.block_f32(m, calm));
-        let rds = with_rds.then_some(&rds[..]);
-        let mut written = output.clone();
-        let (said, next) = ours::encode(fields, &table, (&left, &right), rds, &mut written);
-        part.said(said);
-        let words: Vec<u64> = written.iter().map(|y| word_f32(*y)).collect();
-        for side in SIDES {
-            let e = answers::encode(side, fields, &table, (&left, &right), rds, &output);
-            let of = || format!("{side:?} table {entries} {n:?} {fields:?}");
-            part.same((e.said, e.phase), (said, next), of);
-            part.same_words(&e.output, &words, |i| {
-                let bits = |x: &[f32]| x.get(i).map(|y| y.to_bits());
-                let b = rds.map(bits);
-                format!(
-                    "{} at {i} {:x?} {:x?} {b:x?}",
-                    of(),
-                    bits(&left),
-                    bits(&right)
-                )
-            });
-        }
+        let block = Block {
+            table,
+            left,
+            right,
+            rds,
+            output,
+        };
+        let theirs = SIDES.map(|side| (side, Encoder::by_hand(fields, with_rds)));
+        let ours = encoder::Ours::by_hand(fields, with_rds);
+        let begun = format!("table {entries} {n:?} {fields:?}");
+        encoder::Session::new(&mut part, begun, ours, theirs).block(&block);
     }
     part.report()
 }
 
-/// All parts; whether there was no difference.
-pub fn compare() -> bool {
+/// All parts, with so many sessions of each kind; whether there was no difference.
+pub fn compare(count: u64) -> bool {
     lookups()
         & some_corrections()
         & oscillator()
@@ -423,4 +405,9 @@ pub fn compare() -> bool {
         & matrix_q15()
         & encoder("encode", false)
         & encoder("encode_rds", true)
+        & sessions::oscillators("sessions_nco", count)
+        & sessions::constructed("sessions_encode", false, count)
+        & sessions::constructed("sessions_rds", true, count)
+        & sessions::by_hand("by_hand_encode", false, count)
+        & sessions::by_hand("by_hand_rds", true, count)
 }

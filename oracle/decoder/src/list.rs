@@ -5,7 +5,7 @@
 
 use std::fmt::Write;
 
-use decoder_oracle::answers::{self, Arguments, Block, Call, Format, Outcome, field_words};
+use decoder_oracle::answers::{self, Arguments, Block, Call, Outcome, field_words};
 use decoder_oracle::inputs::{self, Drawn, one};
 use decoder_oracle::samples::{ANY, CALM, Made, ONE, SINE, TRIANGLE, filled};
 use numbers_oracle::answers::word_f32;

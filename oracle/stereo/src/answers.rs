@@ -70,13 +70,34 @@ fn is_rate(rate: f64) -> bool {
     rate.is_finite() && rate > 0.0
 }
 
-pub fn increment_for(freq: f64, rate: f64) -> u64 {
+/// A new oscillator, or the number of the refusal.
+pub fn new_nco(freq: f64, rate: f64) -> Result<Nco, u32> {
     if !is_rate(rate) {
-        return REFUSED + 1;
+        return Err(1);
     }
-    match Nco::new(freq, Rate(rate)) {
-        Ok(nco) => nco.increment() as u64,
-        Err(_) => REFUSED + 17,
+    Nco::new(freq, Rate(rate)).map_err(|_| 17)
+}
+
+/// 0, or the number of the refusal.
+pub fn set_frequency(nco: &mut Nco, freq: f64, rate: f64) -> u32 {
+    if !is_rate(rate) {
+        return 1;
+    }
+    match nco.set_frequency(freq, Rate(rate)) {
+        Ok(()) => 0,
+        Err(_) => 17,
+    }
+}
+
+pub fn increment_for(freq: f64, rate: f64) -> Result<u32, u32> {
+    new_nco(freq, rate).map(|nco| nco.increment())
+}
+
+/// An increment as a word of the list.
+pub fn increment_word(made: Result<u32, u32>) -> u64 {
+    match made {
+        Ok(inc) => inc as u64,
+        Err(number) => REFUSED + number as u64,
     }
 }
 
@@ -87,69 +108,19 @@ pub fn advance(phase: u32, inc: u32, n: usize) -> u32 {
     nco.phase()
 }
 
-// ---- construction
+// ---- encoders
 
-/// Which cause an error of the original's constructors is: the one that gives the same error where
-/// it is in force alone.
-fn cause(e: Error) -> u64 {
-    let alone = [
-        (12, (0.0, 0.5, 0.1, 0.1, 192000.0)),
-        (13, (19000.0, 2.0, 0.1, 0.1, 192000.0)),
-        (14, (19000.0, 0.5, 1.0, 0.1, 192000.0)),
-        (15, (19000.0, 0.5, 0.1, 0.1, 96000.0)),
-        (16, (19000.0, 0.5, 0.1, 1.0, 192000.0)),
-    ];
-    alone
-        .iter()
-        .find(|(_, (f, m, p, r, rate))| {
-            StereoEncodeRdsState::new(*f, *m, *p, *r, Rate(*rate)) == Err(e)
-        })
-        .map(|(number, _)| *number)
-        .expect("each error has its cause")
+/// What an encoder is constructed with.
+#[derive(Clone, Copy, Debug)]
+pub struct Arguments {
+    pub frequency: f64,
+    pub main: f32,
+    pub pilot: f32,
+    pub rds: f32,
+    pub rate: f64,
 }
 
-pub fn encode_new(frequency: f64, main: f32, pilot: f32, rate: f64) -> u64 {
-    if !is_rate(rate) {
-        return REFUSED + 1;
-    }
-    match StereoEncodeState::new(frequency, main, pilot, Rate(rate)) {
-        Ok(e) => {
-            assert_eq!(e.phase(), 0);
-            assert_eq!(e.main().to_bits(), main.to_bits());
-            assert_eq!(e.pilot().to_bits(), pilot.to_bits());
-            e.increment() as u64
-        }
-        Err(e) => REFUSED + cause(e),
-    }
-}
-
-pub fn encode_rds_new(frequency: f64, main: f32, pilot: f32, rds: f32, rate: f64) -> u64 {
-    if !is_rate(rate) {
-        return REFUSED + 1;
-    }
-    match StereoEncodeRdsState::new(frequency, main, pilot, rds, Rate(rate)) {
-        Ok(e) => e.increment() as u64,
-        Err(e) => REFUSED + cause(e),
-    }
-}
-
-// ---- setters: 0 or the refusal's number, and the level after it
-
-pub fn set_pilot(fields: Fields, to: f32) -> (u32, u32) {
-    let mut e = fields.encoder();
-    let code = if e.set_pilot(to).is_ok() { 0 } else { 14 };
-    (code, e.pilot().to_bits())
-}
-
-pub fn set_rds(fields: Fields, to: f32) -> (u32, u32) {
-    let mut e = fields.encoder_rds();
-    let code = if e.set_rds(to).is_ok() { 0 } else { 16 };
-    (code, e.rds().to_bits())
-}
-
-// ---- blocks
-
-/// An encoder's fields.
+/// An encoder's fields; without RDS the level is 0.
 #[derive(Clone, Copy, Debug)]
 pub struct Fields {
     pub phase: u32,
@@ -160,14 +131,181 @@ pub struct Fields {
 }
 
 impl Fields {
-    fn encoder(&self) -> StereoEncodeState {
-        probe::encoder(self.phase, self.inc, self.main, self.pilot)
-    }
-
-    fn encoder_rds(&self) -> StereoEncodeRdsState {
-        probe::encoder_rds(self.encoder(), self.level)
+    pub fn words(&self) -> [u64; 5] {
+        [
+            self.phase as u64,
+            self.inc as u64,
+            word_f32(self.main),
+            word_f32(self.pilot),
+            word_f32(self.level),
+        ]
     }
 }
+
+/// The slices of a block. An encoder without RDS does not look at `rds`.
+#[derive(Clone, Debug)]
+pub struct Block {
+    pub table: Vec<f32>,
+    pub left: Vec<f32>,
+    pub right: Vec<f32>,
+    pub rds: Vec<f32>,
+    pub output: Vec<f32>,
+}
+
+/// An encoder of the original.
+#[derive(Clone, Copy, Debug)]
+pub enum Encoder {
+    Plain(StereoEncodeState),
+    Rds(StereoEncodeRdsState),
+}
+
+impl Encoder {
+    fn made(a: Arguments, with_rds: bool) -> Result<Self, Error> {
+        let rate = Rate(a.rate);
+        Ok(if with_rds {
+            let made = StereoEncodeRdsState::new(a.frequency, a.main, a.pilot, a.rds, rate);
+            Encoder::Rds(made?)
+        } else {
+            let made = StereoEncodeState::new(a.frequency, a.main, a.pilot, rate);
+            Encoder::Plain(made?)
+        })
+    }
+
+    /// A new encoder, or the number of the refusal.
+    pub fn new(a: Arguments, with_rds: bool) -> Result<Self, u32> {
+        if !is_rate(a.rate) {
+            return Err(1);
+        }
+        Encoder::made(a, with_rds).map_err(cause)
+    }
+
+    /// A record filled in by hand.
+    pub fn by_hand(f: Fields, with_rds: bool) -> Self {
+        let stereo = probe::encoder(f.phase, f.inc, f.main, f.pilot);
+        if with_rds {
+            Encoder::Rds(probe::encoder_rds(stereo, f.level))
+        } else {
+            Encoder::Plain(stereo)
+        }
+    }
+
+    /// What its accessors say.
+    pub fn fields(&self) -> Fields {
+        match self {
+            Encoder::Plain(e) => Fields {
+                phase: e.phase(),
+                inc: e.increment(),
+                main: e.main(),
+                pilot: e.pilot(),
+                level: 0.0,
+            },
+            Encoder::Rds(e) => Fields {
+                phase: e.phase(),
+                inc: e.increment(),
+                main: e.main(),
+                pilot: e.pilot(),
+                level: e.rds(),
+            },
+        }
+    }
+
+    /// 0, or the number of the refusal.
+    pub fn set_pilot(&mut self, to: f32) -> u32 {
+        let answer = match self {
+            Encoder::Plain(e) => e.set_pilot(to),
+            Encoder::Rds(e) => e.set_pilot(to),
+        };
+        answer.map_or_else(cause, |()| 0)
+    }
+
+    /// 0, or the number of the refusal; an encoder without RDS has no such call.
+    pub fn set_rds(&mut self, to: f32) -> u32 {
+        match self {
+            Encoder::Plain(_) => panic!("no level of RDS"),
+            Encoder::Rds(e) => e.set_rds(to).map_or_else(cause, |()| 0),
+        }
+    }
+
+    pub fn set_phase(&mut self, p: u32) {
+        match self {
+            Encoder::Plain(e) => e.set_phase(p),
+            Encoder::Rds(e) => e.set_phase(p),
+        }
+    }
+
+    pub fn reset(&mut self) {
+        match self {
+            Encoder::Plain(e) => e.reset(),
+            Encoder::Rds(e) => e.reset(),
+        }
+    }
+
+    /// What a block answers, and the words of the output as it is left.
+    pub fn block(&mut self, side: Side, b: &Block) -> (Said, Vec<u64>) {
+        let n = b.left.len();
+        let words = |x: &[f32]| x.iter().map(|y| word_f32(*y)).collect();
+        if let Some(said) = rule(9, TABLE, b.table.len()).or_else(|| rule(10, n, b.right.len())) {
+            return (said, words(&b.output));
+        }
+        let input = pairs(&b.left, &b.right);
+        let mut written = b.output.clone();
+        let mut number = 11;
+        let answer = COS_F32.with(&b.table, || match self {
+            Encoder::Plain(e) => match side {
+                Side::Reference => Reference.stereo_encode(e, &input, &mut written),
+                Side::Fallback => Fallback.stereo_encode(e, &input, &mut written),
+            },
+            Encoder::Rds(e) => {
+                if b.rds.len() != n {
+                    number = 10;
+                }
+                match side {
+                    Side::Reference => Reference.stereo_encode_rds(e, &input, &b.rds, &mut written),
+                    Side::Fallback => Fallback.stereo_encode_rds(e, &input, &b.rds, &mut written),
+                }
+            }
+        });
+        (said(answer, number), words(&written))
+    }
+}
+
+/// Which cause an error of the original's encoders is: the one that gives the same error where it
+/// is in force alone.
+fn cause(e: Error) -> u32 {
+    let good = Arguments {
+        frequency: 19000.0,
+        main: 0.5,
+        pilot: 0.1,
+        rds: 0.1,
+        rate: 192000.0,
+    };
+    let alone = [
+        (
+            12,
+            Arguments {
+                frequency: 0.0,
+                ..good
+            },
+        ),
+        (13, Arguments { main: 2.0, ..good }),
+        (14, Arguments { pilot: 1.0, ..good }),
+        (
+            15,
+            Arguments {
+                rate: 96000.0,
+                ..good
+            },
+        ),
+        (16, Arguments { rds: 1.0, ..good }),
+    ];
+    alone
+        .iter()
+        .find(|(_, a)| Encoder::made(*a, true).err() == Some(e))
+        .map(|(number, _)| *number)
+        .expect("each error has its cause")
+}
+
+// ---- blocks
 
 fn said(answer: Result<(), Error>, cause: usize) -> Said {
     match answer {
@@ -269,60 +407,4 @@ pub fn matrix_q15(
         |c| (c.re.0, c.im.0),
         word_i16,
     )
-}
-
-/// The words of the output as the original leaves it, and the next phase.
-pub struct Encoded {
-    pub said: Said,
-    pub output: Vec<u64>,
-    pub phase: u32,
-}
-
-/// A block of an encoder: with RDS where there is an RDS baseband.
-pub fn encode(
-    side: Side,
-    fields: Fields,
-    table: &[f32],
-    (left, right): (&[f32], &[f32]),
-    rds: Option<&[f32]>,
-    output: &[f32],
-) -> Encoded {
-    let n = left.len();
-    if let Some(said) = rule(9, TABLE, table.len()).or_else(|| rule(10, n, right.len())) {
-        return Encoded {
-            said,
-            output: output.iter().map(|x| word_f32(*x)).collect(),
-            phase: fields.phase,
-        };
-    }
-    let input = pairs(left, right);
-    let mut written = output.to_vec();
-    let (answer, phase) = COS_F32.with(table, || match rds {
-        None => {
-            let mut e = fields.encoder();
-            let answer = match side {
-                Side::Reference => Reference.stereo_encode(&mut e, &input, &mut written),
-                Side::Fallback => Fallback.stereo_encode(&mut e, &input, &mut written),
-            };
-            (answer, e.phase())
-        }
-        Some(rds) => {
-            let mut e = fields.encoder_rds();
-            let answer = match side {
-                Side::Reference => Reference.stereo_encode_rds(&mut e, &input, rds, &mut written),
-                Side::Fallback => Fallback.stereo_encode_rds(&mut e, &input, rds, &mut written),
-            };
-            (answer, e.phase())
-        }
-    });
-    let number = if rds.is_some_and(|r| r.len() != n) {
-        10
-    } else {
-        11
-    };
-    Encoded {
-        said: said(answer, number),
-        output: written.iter().map(|x| word_f32(*x)).collect(),
-        phase,
-    }
 }

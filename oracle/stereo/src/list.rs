@@ -3,7 +3,7 @@
 use std::fmt::Write;
 
 use numbers_oracle::answers::{word_f32, word_f64};
-use stereo_oracle::answers::{self, ACCEPTED, Fields, SIDES, Side};
+use stereo_oracle::answers::{self, ACCEPTED, Arguments, Block, Encoder, Fields, SIDES, Side};
 use stereo_oracle::inputs::{Inputs, corrections, limits};
 use stereo_oracle::samples;
 
@@ -106,7 +106,8 @@ impl List {
         }
         for (freq, rate) in all {
             let words = [word_f64(freq), word_f64(rate)];
-            self.line("increment_for", &words, answers::increment_for(freq, rate));
+            let answer = answers::increment_word(answers::increment_for(freq, rate));
+            self.line("increment_for", &words, answer);
         }
         for k in 0..200u64 {
             let (phase, inc) = (self.r.u32(), self.r.u32());
@@ -119,18 +120,25 @@ impl List {
         }
     }
 
-    fn construct(&mut self, f: f64, main: f32, pilot: f32, rds: f32, rate: f64) {
+    fn construct(&mut self, frequency: f64, main: f32, pilot: f32, rds: f32, rate: f64) {
         let words = [
-            word_f64(f),
+            word_f64(frequency),
             word_f32(main),
             word_f32(pilot),
             word_f32(rds),
             word_f64(rate),
         ];
-        let answer = answers::encode_new(f, main, pilot, rate);
-        self.line("encode_new", &words, answer);
-        let answer = answers::encode_rds_new(f, main, pilot, rds, rate);
-        self.line("encode_rds_new", &words, answer);
+        let a = Arguments {
+            frequency,
+            main,
+            pilot,
+            rds,
+            rate,
+        };
+        for (name, with_rds) in [("encode_new", false), ("encode_rds_new", true)] {
+            let made = Encoder::new(a, with_rds).map(|e| e.fields().inc);
+            self.line(name, &words, answers::increment_word(made));
+        }
     }
 
     fn constructions(&mut self) {
@@ -165,13 +173,13 @@ impl List {
         for to in all {
             let mut fields = self.r.fields(true);
             (fields.pilot, fields.level) = (0.125, 0.0625);
-            let (code, after) = answers::set_pilot(fields, to);
             // a NaN is never set, so the pattern is the level's own
-            let answer = (code as u64) << 32 | after as u64;
+            let both = |code: u32, after: f32| (code as u64) << 32 | after.to_bits() as u64;
+            let mut e = Encoder::by_hand(fields, true);
+            let answer = both(e.set_pilot(to), e.fields().pilot);
             let words = [word_f32(fields.pilot), word_f32(to)];
             self.line("set_pilot", &words, answer);
-            let (code, after) = answers::set_rds(fields, to);
-            let answer = (code as u64) << 32 | after as u64;
+            let answer = both(e.set_rds(to), e.fields().level);
             let words = [word_f32(fields.level), word_f32(to)];
             self.line("set_rds", &words, answer);
         }
@@ -220,20 +228,29 @@ impl List {
                 _ => self.r.fields(k % 4 != 0),
             };
             let left = samples::block_f32(seed, BLOCK);
-            let right = samples::block_f32(seed + BLOCK as u64, BLOCK);
-            let rds = samples::block_f32(seed + 2 * BLOCK as u64, BLOCK);
-            let with = [("encode", None), ("encode_rds", Some(&rds[..]))];
-            for (name, rds) in with {
-                let [a, b] = SIDES
-                    .map(|side| answers::encode(side, fields, &table, (&left, &right), rds, &left));
-                assert!(a.said == ACCEPTED && a.output == b.output && a.phase == b.phase);
+            let block = Block {
+                table: table.clone(),
+                right: samples::block_f32(seed + BLOCK as u64, BLOCK),
+                rds: samples::block_f32(seed + 2 * BLOCK as u64, BLOCK),
+                output: left.clone(),
+                left,
+            };
+            for (name, with_rds) in [("encode", false), ("encode_rds", true)] {
+                let [a, b] = SIDES.map(|side| {
+                    let mut e = Encoder::by_hand(fields, with_rds);
+                    let (said, output) = e.block(side, &block);
+                    assert_eq!(said, ACCEPTED);
+                    (output, e.fields().phase as u64)
+                });
+                assert_eq!(a, b);
+                let (output, phase) = a;
                 let both = |high: u64, low: u64| high << 32 | low;
                 let fixed = [
                     both(fields.inc as u64, fields.phase as u64),
                     both(word_f32(fields.pilot), word_f32(fields.main)),
                     word_f32(fields.level),
                 ];
-                for (k, w) in a.output.iter().chain([&(a.phase as u64)]).enumerate() {
+                for (k, w) in output.iter().chain([&phase]).enumerate() {
                     self.line(name, &[&[seed, k as u64][..], &fixed[..]].concat(), *w);
                 }
             }

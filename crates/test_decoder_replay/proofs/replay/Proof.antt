@@ -1,4 +1,5 @@
--- `test_decoder_replay::replay` is safe and ends. The measure is the number of turns that are left. Assumes nothing.
+-- `test_decoder_replay::replay` is safe and ends. The measure is the number of turns that are left. Assumes
+-- nothing.
 use borrow.Author.Needs.{needs}
 use Rattle.test_decoder_replay.proofs.replay.Statement.{statement}
 use Rattle.test_decoder_replay.proofs.replay.Tie as tie
@@ -21,12 +22,6 @@ next-requires c κs = tt
 returns : tie.Need-returns Inv-loop μ-loop
 returns c = tt
 
-sub-turns : tie.Need-sub-turns Inv-loop μ-loop
-sub-turns c = search needs
-
-loop-less : tie.Need-loop-less Inv-loop μ-loop
-loop-less c = search needs
-
 loop-again : tie.Need-loop-again Inv-loop μ-loop
 loop-again c = tt
 
@@ -43,7 +38,7 @@ replay-spec =
     loop-holds
     next-requires
     returns
-    sub-turns
-    loop-less
+    (λ c. search needs)
+    (λ c. search needs)
     loop-again
     returns-2)

@@ -1,4 +1,5 @@
--- `test_numbers_replay::replay` is safe and ends. The measure is the number of turns that are left. Assumes nothing.
+-- `test_numbers_replay::replay` is safe and ends. The measure is the number of turns that are left. Assumes
+-- nothing.
 use native.Mathlib.Omega.{arith}
 use Rattle.test_numbers_replay.proofs.replay.Statement.{statement}
 use Rattle.test_numbers_replay.proofs.replay.Tie as tie
@@ -21,12 +22,6 @@ next-requires c κs = tt
 returns : tie.Need-returns Inv-loop μ-loop
 returns c = tt
 
-sub-turns : tie.Need-sub-turns Inv-loop μ-loop
-sub-turns c = omega arith
-
-loop-less : tie.Need-loop-less Inv-loop μ-loop
-loop-less c = omega arith
-
 loop-again : tie.Need-loop-again Inv-loop μ-loop
 loop-again c = tt
 
@@ -34,4 +29,4 @@ returns-2 : tie.Need-returns-2 Inv-loop μ-loop
 returns-2 c = tt
 
 pub replay-spec : {M : Type 1} → statement M
-replay-spec = tie.close (tie.spec Inv-loop μ-loop fresh-requires loop-holds next-requires returns sub-turns loop-less loop-again returns-2)
+replay-spec = tie.close (tie.spec Inv-loop μ-loop fresh-requires loop-holds next-requires returns (λ c. omega arith) (λ c. omega arith) loop-again returns-2)

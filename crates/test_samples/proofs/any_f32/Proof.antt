@@ -6,21 +6,9 @@ use Rattle.test_samples.specs.Samples.{anyOf}
 use Rattle.test_samples.proofs.any_f32.Statement.{statement}
 use Rattle.test_samples.proofs.any_f32.Tie as tie
 
-mixed-requires : tie.Need-mixed-requires
-mixed-requires c κs = search needs
-
-f32-of-requires : tie.Need-f32-of-requires
-f32-of-requires c κs = search needs
-
 returns : tie.Need-returns
 unfolding anyOf
 returns c = rw (c .f32-of .ensures, c .before .before .mixed .ensures, eq-eqb (c .before .before .before .args .w % 8) 0 (c .before .if1 .taken))
-
-calm-requires : tie.Need-calm-requires
-calm-requires c κs = search needs
-
-f32-of-requires-2 : tie.Need-f32-of-requires-2
-f32-of-requires-2 c κs = search needs
 
 returns-2 : tie.Need-returns-2
 unfolding anyOf
@@ -31,4 +19,4 @@ returns-2 c =
 pub any-f32-spec : {M : Type 1} → statement M
 any-f32-spec =
     tie.close
-    (tie.spec mixed-requires f32-of-requires returns calm-requires f32-of-requires-2 returns-2)
+    (tie.spec (λ c κs. search needs) (λ c κs. search needs) returns (λ c κs. search needs) (λ c κs. search needs) returns-2)

@@ -7,12 +7,6 @@ use Rattle.test_samples.specs.Samples.{mixedOf, drawnOf}
 use Rattle.test_samples.proofs.drawn.Statement.{statement}
 use Rattle.test_samples.proofs.drawn.Tie as tie
 
-add-mixed : tie.Need-add-mixed
-add-mixed c = search needs
-
-mixed-requires : tie.Need-mixed-requires
-mixed-requires c κs = search needs
-
 -- the sum of both modulo 2^32, which is all that `mixedOf` reads
 mixed-low : (a i : ℕ) → mixedOf (a % 2 ^ 32 + i % 2 ^ 32) ≡ mixedOf (a % 2 ^ 32 + i)
 unfolding mixedOf
@@ -25,4 +19,4 @@ unfolding drawnOf
 returns c = let a = c .before .args in c .mixed .ensures ∙ mixed-low (a .spec) (a .i)
 
 pub drawn-spec : {M : Type 1} → statement M
-drawn-spec = tie.close (tie.spec add-mixed mixed-requires returns)
+drawn-spec = tie.close (tie.spec (λ c. search needs) (λ c κs. search needs) returns)

@@ -9,21 +9,6 @@ use Rattle.test_samples.specs.Samples.{sampleQ15Of}
 use Rattle.test_samples.proofs.sample_q15.Statement.{statement}
 use Rattle.test_samples.proofs.sample_q15.Tie as tie
 
-triangle-requires : tie.Need-triangle-requires
-triangle-requires c κs = search needs
-
-q15-from-f64-requires : tie.Need-q15-from-f64-requires
-q15-from-f64-requires c κs = search needs
-
-i16-of-requires : tie.Need-i16-of-requires
-i16-of-requires c κs = search needs
-
-drawn-requires : tie.Need-drawn-requires
-drawn-requires c κs = search needs
-
-i16-of-requires-2 : tie.Need-i16-of-requires-2
-i16-of-requires-2 c κs = search needs
-
 returns : tie.Need-returns
 unfolding sampleQ15Of
 returns c =
@@ -47,11 +32,11 @@ pub sample-q15-spec : {M : Type 1} → statement M
 sample-q15-spec =
     tie.close
     (tie.spec
-    triangle-requires
-    q15-from-f64-requires
-    i16-of-requires
-    drawn-requires
-    i16-of-requires-2
+    (λ c κs. search needs)
+    (λ c κs. search needs)
+    (λ c κs. search needs)
+    (λ c κs. search needs)
+    (λ c κs. search needs)
     returns
     returns-2
     returns-3)

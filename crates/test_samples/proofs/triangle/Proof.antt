@@ -13,12 +13,6 @@ use Rattle.test_samples.specs.Samples.{triangleOf}
 use Rattle.test_samples.proofs.triangle.Statement.{statement}
 use Rattle.test_samples.proofs.triangle.Tie as tie
 
-cast-i64-to-f64 : tie.Need-cast-i64-to-f64
-cast-i64-to-f64 c = search needs
-
-i64-to-f64-requires : tie.Need-i64-to-f64-requires
-i64-to-f64-requires c κs = search needs
-
 -- the place, as the i64 that is cast
 place : (c : tie.After-i64-to-f64) → let k = c .before .args .i % 4096 in toZ w64 k ≡ pos k
 place c = toZ-pos w64 (omega arith)
@@ -36,4 +30,4 @@ returns-2 c =
     rw (le-ltb (b .before .args .i % 4096) 2048 (c .if1 .left), b .i64-to-f64 .ensures, place b)
 
 pub triangle-spec : {M : Type 1} → statement M
-triangle-spec = tie.close (tie.spec cast-i64-to-f64 i64-to-f64-requires returns returns-2)
+triangle-spec = tie.close (tie.spec (λ c. search needs) (λ c κs. search needs) returns returns-2)

@@ -2,12 +2,9 @@ use borrow.Author.Needs.{needs}
 use mathlib.Core.Path.{_≡_, sym, _∙_}
 use borrow.Author.Tests.{eq-eqb, ne-eqb}
 use Rattle.answers.specs.Answer.{says, accepted}
-use Rattle.answers.proofs.Lengths.{stays, none-yet}
+use Rattle.answers.proofs.Causes.{stays, none-yet}
 use Rattle.answers.proofs.answer.then_length.Statement.{statement}
 use Rattle.answers.proofs.answer.then_length.Tie as tie
-
-is-accepted-requires : tie.Need-is-accepted-requires
-is-accepted-requires c κs = search needs
 
 -- no earlier cause, under the first test
 free : (c : tie.Then1) → says (c .before .before .args .a) ≡ accepted
@@ -23,4 +20,4 @@ returns-3 : tie.Need-returns-3
 returns-3 c = stays _ _ (sym (c .before .is-accepted .ensures) ∙ c .if1 .left)
 
 pub then-length-spec : {M : Type 1} → statement M
-then-length-spec = tie.close (tie.spec is-accepted-requires returns returns-2 returns-3)
+then-length-spec = tie.close (tie.spec (λ c κs. search needs) returns returns-2 returns-3)

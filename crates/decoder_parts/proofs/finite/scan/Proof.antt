@@ -18,21 +18,6 @@ abbrev μ-loop : tie.MeasureT-loop
 loop-holds : tie.Need-loop-holds Inv-loop μ-loop
 loop-holds c = (search needs, refl)
 
-mul-is-finite-pattern : tie.Need-mul-is-finite-pattern Inv-loop μ-loop
-mul-is-finite-pattern c = search needs
-
-shared-slice-read-is-finite-pattern : tie.Need-shared-slice-read-is-finite-pattern Inv-loop μ-loop
-shared-slice-read-is-finite-pattern c = omega arith
-
-is-finite-pattern-requires : tie.Need-is-finite-pattern-requires Inv-loop μ-loop
-is-finite-pattern-requires c κs = search needs
-
-add-i : tie.Need-add-i Inv-loop μ-loop
-add-i c = omega arith
-
-loop-less : tie.Need-loop-less Inv-loop μ-loop
-loop-less c = omega arith
-
 loop-again : tie.Need-loop-again Inv-loop μ-loop
 loop-again c =
     let at = c .before .before .before in
@@ -48,10 +33,10 @@ scan-spec =
     Inv-loop
     μ-loop
     loop-holds
-    mul-is-finite-pattern
-    shared-slice-read-is-finite-pattern
-    is-finite-pattern-requires
-    add-i
-    loop-less
+    (λ c. search needs)
+    (λ c. omega arith)
+    (λ c κs. search needs)
+    (λ c. omega arith)
+    (λ c. omega arith)
     loop-again
     returns)

@@ -4,9 +4,6 @@ use lib.Ieee.{ofBits}
 use Rattle.decoder_parts.proofs.in_f32.error_of.Statement.{statement}
 use Rattle.decoder_parts.proofs.in_f32.error_of.Tie as tie
 
-is-finite-f32-requires : tie.Need-is-finite-f32-requires
-is-finite-f32-requires c κs = search needs
-
 returns : tie.Need-returns
 returns c = rw (sym (c .before .is-finite-f32 .ensures) ∙ c .if1 .taken)
 
@@ -15,4 +12,4 @@ unfolding ofBits
 returns-2 c = rw (sym (c .before .is-finite-f32 .ensures) ∙ c .if1 .left)
 
 pub error-of-spec : {M : Type 1} → statement M
-error-of-spec = tie.close (tie.spec is-finite-f32-requires returns returns-2)
+error-of-spec = tie.close (tie.spec (λ c κs. search needs) returns returns-2)

@@ -3,12 +3,9 @@ use Rattle.decoder_parts.specs.Rules.{levelF32}
 use Rattle.decoder_parts.proofs.in_f32.level_next.Statement.{statement}
 use Rattle.decoder_parts.proofs.in_f32.level_next.Tie as tie
 
-flush-denormal-requires : tie.Need-flush-denormal-requires
-flush-denormal-requires c κs = search needs
-
 returns : tie.Need-returns
 unfolding levelF32
 returns c = c .flush-denormal .ensures
 
 pub level-next-spec : {M : Type 1} → statement M
-level-next-spec = tie.close (tie.spec flush-denormal-requires returns)
+level-next-spec = tie.close (tie.spec (λ c κs. search needs) returns)

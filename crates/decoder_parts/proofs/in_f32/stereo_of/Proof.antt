@@ -3,17 +3,8 @@ use mathlib.Core.Path.{sym, _∙_}
 use Rattle.decoder_parts.proofs.in_f32.stereo_of.Statement.{statement}
 use Rattle.decoder_parts.proofs.in_f32.stereo_of.Tie as tie
 
-is-finite-f32-requires : tie.Need-is-finite-f32-requires
-is-finite-f32-requires c κs = search needs
-
-decided-requires : tie.Need-decided-requires
-decided-requires c κs = search needs
-
 returns : tie.Need-returns
 returns c = rw (sym (c .before .before .is-finite-f32 .ensures) ∙ c .before .if1 .taken) (c .decided .ensures)
 
-returns-2 : tie.Need-returns-2
-returns-2 c = search needs
-
 pub stereo-of-spec : {M : Type 1} → statement M
-stereo-of-spec = tie.close (tie.spec is-finite-f32-requires decided-requires returns returns-2)
+stereo-of-spec = tie.close (tie.spec (λ c κs. search needs) (λ c κs. search needs) returns (λ c. search needs))

@@ -3,24 +3,6 @@ use lib.Ieee.{ofBits}
 use Rattle.decoder_record.proofs.pll_q15.all_hold.Statement.{statement}
 use Rattle.decoder_record.proofs.pll_q15.all_hold.Tie as tie
 
-holds-requires : tie.Need-holds-requires
-holds-requires c κs = search needs
-
-holds-requires-2 : tie.Need-holds-requires-2
-holds-requires-2 c κs = search needs
-
-holds-requires-3 : tie.Need-holds-requires-3
-holds-requires-3 c κs = search needs
-
-holds-requires-4 : tie.Need-holds-requires-4
-holds-requires-4 c κs = search needs
-
-holds-requires-5 : tie.Need-holds-requires-5
-holds-requires-5 c κs = search needs
-
-holds-requires-6 : tie.Need-holds-requires-6
-holds-requires-6 c κs = search needs
-
 returns : tie.Need-returns
 unfolding ofBits
 returns c =
@@ -34,10 +16,10 @@ pub all-hold-spec : {M : Type 1} → statement M
 all-hold-spec =
     tie.close
     (tie.spec
-    holds-requires
-    holds-requires-2
-    holds-requires-3
-    holds-requires-4
-    holds-requires-5
-    holds-requires-6
+    (λ c κs. search needs)
+    (λ c κs. search needs)
+    (λ c κs. search needs)
+    (λ c κs. search needs)
+    (λ c κs. search needs)
+    (λ c κs. search needs)
     returns)

@@ -1,35 +1,17 @@
 use borrow.Author.Needs.{needs}
 use mathlib.Core.Path.{_≡_, _∙_}
 use lib.IntN.{ℤ, pos}
-use lib.Ieee.{ofBits}
+use lib.Ieee.{Float, ofBits}
 use mir.Syntax.{w64}
 use Rattle.rounding.proofs.Lin.{back}
-use Rattle.numbers.specs.Scaled.{scaledOf}
-use Rattle.decoder_record.specs.Gains.{Gains, power, freshOf, freshQ15}
-use Rattle.decoder_record.specs.Records.{gains}
+use Rattle.decoder_gains.specs.Gains.{Gains, gains}
+use Rattle.decoder_record.specs.State.{freshOf}
+use Rattle.decoder_record.specs.Fresh.{scaledBy, freshQ15}
 use Rattle.decoder_record.proofs.pll_q15.fresh.Statement.{statement}
 use Rattle.decoder_record.proofs.pll_q15.fresh.Tie as tie
 
-floor-scaled-requires : tie.Need-floor-scaled-requires
-floor-scaled-requires c κs = search needs
-
-floor-scaled-requires-2 : tie.Need-floor-scaled-requires-2
-floor-scaled-requires-2 c κs = search needs
-
-floor-scaled-requires-3 : tie.Need-floor-scaled-requires-3
-floor-scaled-requires-3 c κs = search needs
-
-floor-scaled-requires-4 : tie.Need-floor-scaled-requires-4
-floor-scaled-requires-4 c κs = search needs
-
-floor-scaled-requires-5 : tie.Need-floor-scaled-requires-5
-floor-scaled-requires-5 c κs = search needs
-
-floor-scaled-requires-6 : tie.Need-floor-scaled-requires-6
-floor-scaled-requires-6 c κs = search needs
-
-by-fields : (g : Gains) {kp ki imax beta on off : ℤ} → kp ≡ scaledOf (g .kp) (power 34) → ki ≡ scaledOf (g .ki) (power 34) → imax ≡ scaledOf (g .imax) (power 64) → beta ≡ scaledOf (g .beta) (power 31) → on ≡ scaledOf (g .on) (power 61) → off ≡ scaledOf (g .off) (power 61)
-    → freshOf (pos 0) kp ki imax beta on off (g .step0) ≡ freshQ15 g
+by-fields : (g : Gains Float) {kp ki imax beta on off : ℤ} → kp ≡ scaledBy 34 (g .kp) → ki ≡ scaledBy 34 (g .ki) → imax ≡ scaledBy 64 (g .imax) → beta ≡ scaledBy 31 (g .beta) → on ≡ scaledBy 61 (g .on) → off ≡ scaledBy 61 (g .off)
+    → freshOf (pos 0) (record { kp = kp; ki = ki; imax = imax; beta = beta; on = on; off = off; step0 = g .step0 }) ≡ freshQ15 g
 by-fields g a b c d e f = rw (a, b, c, d, e, f)
 
 returns : tie.Need-returns
@@ -52,10 +34,10 @@ pub fresh-spec : {M : Type 1} → statement M
 fresh-spec =
     tie.close
     (tie.spec
-    floor-scaled-requires
-    floor-scaled-requires-2
-    floor-scaled-requires-3
-    floor-scaled-requires-4
-    floor-scaled-requires-5
-    floor-scaled-requires-6
+    (λ c κs. search needs)
+    (λ c κs. search needs)
+    (λ c κs. search needs)
+    (λ c κs. search needs)
+    (λ c κs. search needs)
+    (λ c κs. search needs)
     returns)

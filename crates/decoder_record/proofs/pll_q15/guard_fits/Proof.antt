@@ -1,4 +1,5 @@
--- `pll_q15::guard_fits` meets its contract: gain * 2^30 + imax fits exactly when gain + floor(imax / 2^30) is at least -2^33 and below 2^33. Assumes nothing.
+-- `pll_q15::guard_fits` meets its contract: gain * 2^30 + imax fits exactly when gain + floor(imax / 2^30) is
+-- at least -2^33 and below 2^33. Assumes nothing.
 use Prim.Native.Nat.{_^_, _+_, _*_, _≤_}
 use mathlib.Core.Path.{_≡_, refl, sym}
 use mathlib.Core.Bool.{Bool, true, false, and-false, and-true}

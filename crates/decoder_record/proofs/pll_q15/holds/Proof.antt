@@ -9,7 +9,7 @@ use lib.Dec.{ltb, lit<}
 use lib.Ieee.{Float, nan, inf, fin, up, down, ofBits, lt, neg}
 use lib.Ieee.Fits.{down-pos}
 use Rattle.floats.specs.Floats.{absOf}
-use Rattle.decoder_record.specs.Gains.{power}
+use Rattle.decoder_gains.specs.Gains.{power}
 use Rattle.decoder_record.proofs.pll_q15.holds.Statement.{statement}
 use Rattle.decoder_record.proofs.pll_q15.holds.Tie as tie
 
@@ -29,9 +29,6 @@ two-tests (fin true m e) = rw (lt-ltb 0 (m * up e * 1 + 2 ^ 63 * down e) (omega 
 by-test : {v w : Float} {t : Bool} → v ≡ w → lt v (power 63) ≡ t → cond t (lt (neg (power 63)) v) false ≡ lt (absOf w) (power 63)
 by-test {v} e h = rw (← h, ← e) (two-tests v)
 
-floor-f64-requires : tie.Need-floor-f64-requires
-floor-f64-requires c κs = search needs
-
 returns : tie.Need-returns
 unfolding ofBits
 returns c = by-test (c .before .floor-f64 .ensures) (c .if1 .taken)
@@ -41,4 +38,4 @@ unfolding ofBits
 returns-2 c = by-test (c .before .floor-f64 .ensures) (c .if1 .left)
 
 pub holds-spec : {M : Type 1} → statement M
-holds-spec = tie.close (tie.spec floor-f64-requires returns returns-2)
+holds-spec = tie.close (tie.spec (λ c κs. search needs) returns returns-2)

@@ -22,30 +22,6 @@ abbrev μ-loop : tie.MeasureT-loop
 loop-holds : tie.Need-loop-holds Inv-loop μ-loop
 loop-holds c = (sent-start (omega arith) refl, untouched-start)
 
-mul-x : tie.Need-mul-x Inv-loop μ-loop
-mul-x c = search needs
-
-slice-read-x : tie.Need-slice-read-x Inv-loop μ-loop
-slice-read-x c = search needs
-
-sine-at-requires : tie.Need-sine-at-requires Inv-loop μ-loop
-sine-at-requires c κs = search needs
-
-cos-f32-requires : tie.Need-cos-f32-requires Inv-loop μ-loop
-cos-f32-requires c κs = search needs
-
-mul-output : tie.Need-mul-output Inv-loop μ-loop
-mul-output c = search needs
-
-slice-write-output : tie.Need-slice-write-output Inv-loop μ-loop
-slice-write-output c = search needs
-
-wrapping-add-u32-requires : tie.Need-wrapping-add-u32-requires Inv-loop μ-loop
-wrapping-add-u32-requires c κs = search needs
-
-add-i : tie.Need-add-i Inv-loop μ-loop
-add-i c = omega arith
-
 loop-less : tie.Need-loop-less Inv-loop μ-loop
 loop-less c = omega (arith, c .before .before .before .before .before .before .loop .inv .0 .filled .size)
 
@@ -70,14 +46,14 @@ add-pilot-spec =
     Inv-loop
     μ-loop
     loop-holds
-    mul-x
-    slice-read-x
-    sine-at-requires
-    cos-f32-requires
-    mul-output
-    slice-write-output
-    wrapping-add-u32-requires
-    add-i
+    (λ c. search needs)
+    (λ c. search needs)
+    (λ c κs. search needs)
+    (λ c κs. search needs)
+    (λ c. search needs)
+    (λ c. search needs)
+    (λ c κs. search needs)
+    (λ c. omega arith)
     loop-less
     loop-again
     same-length

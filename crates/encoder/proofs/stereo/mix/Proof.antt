@@ -5,7 +5,7 @@ use native.Mathlib.Omega.{arith}
 use native.Mathlib.Nat.{le-refl}
 use lib.ListN.{length, getD}
 use lib.Ieee.{nan}
-use Rattle.encoder.specs.Multiplex.{stereoOf}
+use Rattle.encoder.specs.Multiplex.{mixedOf}
 use Rattle.answers.proofs.Samples.{Filled, filled-start, filled-next, filled-end}
 use Rattle.encoder.proofs.Passes.{Untouched, untouched-start, untouched-next}
 use Rattle.encoder.proofs.stereo.mix.Statement.{statement}
@@ -14,7 +14,7 @@ use Rattle.encoder.proofs.stereo.mix.Tie as tie
 abbrev Inv-loop : tie.InvT-loop
 Inv-loop main left right output₀ i₀ output i =
     (i ≤ length left)
-    × Filled (length left) (λ k. stereoOf main (getD left k nan) (getD right k nan) (getD output₀ k nan)) i output
+    × Filled (length left) (λ k. mixedOf main (getD left k nan) (getD right k nan) (getD output₀ k nan)) i output
     × Untouched nan output₀ i output
 
 abbrev μ-loop : tie.MeasureT-loop
@@ -23,44 +23,11 @@ abbrev μ-loop : tie.MeasureT-loop
 loop-holds : tie.Need-loop-holds Inv-loop μ-loop
 loop-holds c = (omega arith, filled-start (c .before .before .before .pre .1), untouched-start)
 
-mul-l : tie.Need-mul-l Inv-loop μ-loop
-mul-l c = search needs
-
-shared-slice-read-l : tie.Need-shared-slice-read-l Inv-loop μ-loop
-shared-slice-read-l c = search needs
-
-mul-r : tie.Need-mul-r Inv-loop μ-loop
-mul-r c = search needs
-
-shared-slice-read-r : tie.Need-shared-slice-read-r Inv-loop μ-loop
-shared-slice-read-r c = search needs
-
-mul-s2 : tie.Need-mul-s2 Inv-loop μ-loop
-mul-s2 c = search needs
-
-slice-read-s2 : tie.Need-slice-read-s2 Inv-loop μ-loop
-slice-read-s2 c = search needs
-
-stereo-part-requires : tie.Need-stereo-part-requires Inv-loop μ-loop
-stereo-part-requires c κs = search needs
-
-mul-output : tie.Need-mul-output Inv-loop μ-loop
-mul-output c = search needs
-
-slice-write-output : tie.Need-slice-write-output Inv-loop μ-loop
-slice-write-output c = search needs
-
-add-i : tie.Need-add-i Inv-loop μ-loop
-add-i c = omega arith
-
-loop-less : tie.Need-loop-less Inv-loop μ-loop
-loop-less c = omega arith
-
 loop-again : tie.Need-loop-again Inv-loop μ-loop
 loop-again c =
     let b = c .before .before .before .before in
     let k = b .before .loop .inv in
-    (omega arith, filled-next (k .1) (b .loop-test .taken) (c .stereo-part .ensures ∙ rw (k .2 .rest _ (le-refl _))), untouched-next (k .2) _)
+    (omega arith, filled-next (k .1) (b .loop-test .taken) (c .mixed .ensures ∙ rw (k .2 .rest _ (le-refl _))), untouched-next (k .2) _)
 
 same-length : tie.Need-same-length Inv-loop μ-loop
 same-length c = c .before .loop .inv .1 .size ∙ sym (c .before .before .before .before .before .pre .1)
@@ -75,17 +42,17 @@ mix-spec =
     Inv-loop
     μ-loop
     loop-holds
-    mul-l
-    shared-slice-read-l
-    mul-r
-    shared-slice-read-r
-    mul-s2
-    slice-read-s2
-    stereo-part-requires
-    mul-output
-    slice-write-output
-    add-i
-    loop-less
+    (λ c. search needs)
+    (λ c. search needs)
+    (λ c. search needs)
+    (λ c. search needs)
+    (λ c. search needs)
+    (λ c. search needs)
+    (λ c κs. search needs)
+    (λ c. search needs)
+    (λ c. search needs)
+    (λ c. omega arith)
+    (λ c. omega arith)
     loop-again
     same-length
     returns)

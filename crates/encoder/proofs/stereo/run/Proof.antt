@@ -5,21 +5,6 @@ use Rattle.encoder.proofs.Passes.{multiplexed}
 use Rattle.encoder.proofs.stereo.run.Statement.{statement}
 use Rattle.encoder.proofs.stereo.run.Tie as tie
 
-whole-requires : tie.Need-whole-requires
-whole-requires c κs = search needs
-
-subcarrier-requires : tie.Need-subcarrier-requires
-subcarrier-requires c κs = search needs
-
-mix-requires : tie.Need-mix-requires
-mix-requires c κs = search needs
-
-add-pilot-requires : tie.Need-add-pilot-requires
-add-pilot-requires c κs = search needs
-
-same-length : tie.Need-same-length
-same-length c = search needs
-
 returns : tie.Need-returns
 returns c =
     let a = c .before .before in
@@ -28,8 +13,8 @@ returns c =
     let w = s .before .before in
     let b = w .before .before .before .before .before in
     let x = b .args in
-    let r = multiplexed (x .e) (x .table .now) (x .left .now) (x .right .now) (w .whole .ensures) (b .pre .2) (s .subcarrier .ensures) (m .mix .ensures) (a .add-pilot .ensures .1) in
+    let r = multiplexed (x .e) (x .table .now) (x .left .now) (x .right .now) (w .full-table .ensures) (b .pre .2) (s .subcarrier .ensures) (m .mix .ensures) (a .add-pilot .ensures .1) in
     (a .add-pilot .ensures .0 ∙ ap (phaseAt (x .e)) (r .0), r .1)
 
 pub run-spec : {M : Type 1} → statement M
-run-spec = tie.close (tie.spec whole-requires subcarrier-requires mix-requires add-pilot-requires same-length returns)
+run-spec = tie.close (tie.spec (λ c κs. search needs) (λ c κs. search needs) (λ c κs. search needs) (λ c κs. search needs) (λ c. search needs) returns)

@@ -21,12 +21,6 @@ even n o true false = refl
 even n o false true = refl
 even n o false false = refl
 
-enum-told : tie.Need-enum-told
-enum-told c = search needs
-
-enum-told-2 : tie.Need-enum-told-2
-enum-told-2 c = search needs
-
 returns : tie.Need-returns
 returns c =
     let a = c .before .before .args in
@@ -38,4 +32,4 @@ returns-2 c =
     rw (c .enum-told2 .given .1) (even (a .negative) (a .odd) (a .first) (a .later))
 
 pub carries-spec : {M : Type 1} → statement M
-carries-spec = tie.close (tie.spec enum-told enum-told-2 returns returns-2)
+carries-spec = tie.close (tie.spec (λ c. search needs) (λ c. search needs) returns returns-2)

@@ -36,12 +36,6 @@ far d p h l = lt-of-lt-of-le {m = 2 ^ 65} (omega arith) (pow-mono {i = 65} {j = 
 returns : tie.Need-returns
 returns c = rw (c .if1 .taken) (sym (cut-whole _ (c .before .args .negative) (c .before .args .d)))
 
-carries-requires : tie.Need-carries-requires
-carries-requires c κs = search needs
-
-cast-result : tie.Need-cast-result
-cast-result c = search needs
-
 returns-2 : tie.Need-returns-2
 returns-2 c =
     let a = c .before .before .before in
@@ -49,26 +43,8 @@ returns-2 c =
     ∙ ap (λ (b : Bool). cond b 1 0) (c .carries .ensures)
     ∙ cut-off _ (a .args .negative) (a .args .d) (2 ^ a .args .place) (far (a .args .d) (a .args .place) (a .fits .d .fits) (c .before .if2 .taken))
 
-sub-half : tie.Need-sub-half
-sub-half c = search needs
-
-shl-half : tie.Need-shl-half
-shl-half c = search needs
-
-sub-doubled : tie.Need-sub-doubled
-sub-doubled c = search needs
-
-shr-doubled : tie.Need-shr-doubled
-shr-doubled c = search needs
-
 rem-carries : tie.Need-rem-carries
 rem-carries c = let p = c .before .before .args .place in rw (half-is p (c .before .if1 .left) (c .if2 .left)) (pow-pos (p - 1))
-
-carries-requires-2 : tie.Need-carries-requires-2
-carries-requires-2 c κs = search needs
-
-cast-result-2 : tie.Need-cast-result-2
-cast-result-2 c = search needs
 
 add-result : tie.Need-add-result
 add-result c =
@@ -89,15 +65,15 @@ cut-spec =
     tie.close
     (tie.spec
     returns
-    carries-requires
-    cast-result
+    (λ c κs. search needs)
+    (λ c. search needs)
     returns-2
-    sub-half
-    shl-half
-    sub-doubled
-    shr-doubled
+    (λ c. search needs)
+    (λ c. search needs)
+    (λ c. search needs)
+    (λ c. search needs)
     rem-carries
-    carries-requires-2
-    cast-result-2
+    (λ c κs. search needs)
+    (λ c. search needs)
     add-result
     returns-3)

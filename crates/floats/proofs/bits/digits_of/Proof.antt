@@ -6,11 +6,8 @@ use Rattle.floats.proofs.bits.digits_of.Tie as tie
 returns : tie.Need-returns
 returns c = digits-low (c .before .args .b) (c .if1 .taken)
 
-add-result : tie.Need-add-result
-add-result c = search needs
-
 returns-2 : tie.Need-returns-2
 returns-2 c = digits-high (c .before .args .b) (c .if1 .left)
 
 pub digits-of-spec : {M : Type 1} → statement M
-digits-of-spec = tie.close (tie.spec add-result returns returns-2)
+digits-of-spec = tie.close (tie.spec (λ c. search needs) returns returns-2)

@@ -24,17 +24,11 @@ returns c = at-nan (c .before .args .x) (c .if1 .taken) ∙ ap (toSigned 63) (wh
 float-to-bits-b : tie.Need-float-to-bits-b
 float-to-bits-b c = real c
 
-f64-to-i64-requires : tie.Need-f64-to-i64-requires
-f64-to-i64-requires c κs = search needs
-
 returns-2 : tie.Need-returns-2
 returns-2 c =
     let d = c .before .before in
     let t = c .f64-to-i64 in
     back w64 (t .result) (t .ok) ∙ t .ensures ∙ ap (toSigned 63) (whole-big downward (d .before .args .x) (held (d .before)) (real d) (c .before .if2 .taken))
-
-whole-size-requires : tie.Need-whole-size-requires
-whole-size-requires c κs = search needs
 
 cast-result : tie.Need-cast-result
 cast-result c = let x = c .before .before .before .before .args .x in plain-fits downward true (toBits binary64 x) (c .whole-size .result) (c .whole-size .ensures)
@@ -49,9 +43,6 @@ returns-3 c =
     minus-back downward true (toBits binary64 x) (c .whole-size .result) (c .whole-size .ensures)
     ∙ signed-minus downward x (held (e .before .before)) (real (e .before)) (e .if2 .left) (c .before .if3 .taken) (c .whole-size .result) (c .whole-size .ensures)
 
-whole-size-requires-2 : tie.Need-whole-size-requires-2
-whole-size-requires-2 c κs = search needs
-
 cast-result-2 : tie.Need-cast-result-2
 cast-result-2 c = let x = c .before .before .before .before .args .x in plain-fits downward false (toBits binary64 x) (c .whole-size2 .result) (c .whole-size2 .ensures)
 
@@ -63,4 +54,4 @@ returns-4 c =
     ∙ signed-plain downward x (held (e .before .before)) (real (e .before)) (e .if2 .left) (c .before .if3 .left) (c .whole-size2 .result) (c .whole-size2 .ensures)
 
 pub floor-to-i64-spec : {M : Type 1} → statement M
-floor-to-i64-spec = tie.close (tie.spec returns float-to-bits-b f64-to-i64-requires returns-2 whole-size-requires cast-result sub-result returns-3 whole-size-requires-2 cast-result-2 returns-4)
+floor-to-i64-spec = tie.close (tie.spec returns float-to-bits-b (λ c κs. search needs) returns-2 (λ c κs. search needs) cast-result sub-result returns-3 (λ c κs. search needs) cast-result-2 returns-4)

@@ -9,12 +9,6 @@ use Rattle.floats.proofs.bits.i64_to_f64.Tie as tie
 sized : (c : tie.After-size-of) → c .size-of .result ≡ natAbs (c .before .args .n)
 sized c = c .size-of .ensures ∙ ap natAbs (toZ-ofZ (c .before .fits .n))
 
-size-of-requires : tie.Need-size-of-requires
-size-of-requires c κs = search needs
-
-nearest-u64-requires : tie.Need-nearest-u64-requires
-nearest-u64-requires c κs = search needs
-
 returns : tie.Need-returns
 returns c = let b = c .before in signed-plain (toZ-ofZ (b .before .before .fits .n)) (c .if1 .taken) (sized (b .before)) (b .nearest-u64 .ensures)
 
@@ -25,4 +19,4 @@ returns-2 c =
     signed-minus f (toZ-ofZ f) (c .if1 .left) (sized (b .before)) (b .nearest-u64 .ensures)
 
 pub i64-to-f64-spec : {M : Type 1} → statement M
-i64-to-f64-spec = tie.close (tie.spec size-of-requires nearest-u64-requires returns returns-2)
+i64-to-f64-spec = tie.close (tie.spec (λ c κs. search needs) (λ c κs. search needs) returns returns-2)

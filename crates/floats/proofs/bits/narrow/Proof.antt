@@ -11,31 +11,10 @@ use Rattle.floats.proofs.Narrow.{narrow-low, narrow-high, kept-le}
 use Rattle.floats.proofs.bits.narrow.Statement.{statement}
 use Rattle.floats.proofs.bits.narrow.Tie as tie
 
-digits-of-requires : tie.Need-digits-of-requires
-digits-of-requires c κs = search needs
-
-place-of-requires : tie.Need-place-of-requires
-place-of-requires c κs = search needs
-
-sub-cut : tie.Need-sub-cut
-sub-cut c = search needs
-
-cut-requires : tie.Need-cut-requires
-cut-requires c κs = search needs
-
 returns : tie.Need-returns
 returns c =
     let a = c .before .before .before .before in
     narrow-low (a .args .b) (c .cut .result) (c .before .before .before .if1 .taken) (c .cut .ensures ∙ rw (c .before .before .digits-of .ensures, c .before .place-of .ensures))
-
-mul-m : tie.Need-mul-m
-mul-m c = search needs
-
-digits-of-requires-2 : tie.Need-digits-of-requires-2
-digits-of-requires-2 c κs = search needs
-
-cut-requires-2 : tie.Need-cut-requires-2
-cut-requires-2 c κs = search needs
 
 -- the digits above the last place of a normal f32
 high : (c : tie.After-cut2) → c .cut2 .result ≡ cutBy halfEven false (digits binary64 (c .before .before .before .args .b)) (2 ^ 29)
@@ -51,4 +30,4 @@ returns-3 : tie.Need-returns-3
 returns-3 c = let a = c .before .before .before in omega (arith, narrow-high (a .before .args .b) (c .before .cut2 .result) (a .if1 .left) (high (c .before)))
 
 pub narrow-spec : {M : Type 1} → statement M
-narrow-spec = tie.close (tie.spec digits-of-requires place-of-requires sub-cut cut-requires returns mul-m digits-of-requires-2 cut-requires-2 add-m returns-2 returns-3)
+narrow-spec = tie.close (tie.spec (λ c κs. search needs) (λ c κs. search needs) (λ c. search needs) (λ c κs. search needs) returns (λ c. search needs) (λ c κs. search needs) (λ c κs. search needs) add-m returns-2 returns-3)

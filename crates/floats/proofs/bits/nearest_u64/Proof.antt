@@ -20,15 +20,6 @@ cast-place c = let a = c .before in omega (arith, few-zeros (a .args .n) (c .if1
 sub-place : tie.Need-sub-place
 sub-place c = let a = c .before in omega (arith, few-zeros (a .args .n) (c .if1 .left) (a .fits .n .fits))
 
-add-result : tie.Need-add-result
-add-result c = search needs
-
-mul-result : tie.Need-mul-result
-mul-result c = search needs
-
-cut-requires : tie.Need-cut-requires
-cut-requires c κs = search needs
-
 add-result-2 : tie.Need-add-result-2
 add-result-2 c = let a = c .before .before in record { fits = made-lt (a .args .n) (c .before .if1 .left) (a .fits .n .fits) (c .cut .result) (c .cut .ensures) }
 
@@ -39,4 +30,4 @@ returns-2 : tie.Need-returns-2
 returns-2 c = let a = c .before .before in made-is (a .args .n) (c .before .if1 .left) (a .fits .n .fits) (c .cut .result) (c .cut .ensures)
 
 pub nearest-u64-spec : {M : Type 1} → statement M
-nearest-u64-spec = tie.close (tie.spec int-to-float-result returns cast-place sub-place add-result mul-result cut-requires add-result-2 float-from-bits-result returns-2)
+nearest-u64-spec = tie.close (tie.spec int-to-float-result returns cast-place sub-place (λ c. search needs) (λ c. search needs) (λ c κs. search needs) add-result-2 float-from-bits-result returns-2)

@@ -23,9 +23,6 @@ float-to-bits-b c = real c
 returns-2 : tie.Need-returns-2
 returns-2 c = let d = c .before in whole-big _ (d .before .args .x) (held (d .before)) (real d) (c .if2 .taken)
 
-whole-size-requires : tie.Need-whole-size-requires
-whole-size-requires c κs = search needs
-
 int-to-float-result : tie.Need-int-to-float-result
 int-to-float-result c =
     let e = c .before .before .before in
@@ -35,9 +32,6 @@ returns-3 : tie.Need-returns-3
 returns-3 c =
     let e = c .before .before .before in
     whole-plain _ (e .before .before .args .x) (held (e .before .before)) (real (e .before)) (c .before .whole-size .result) (e .if2 .left) (c .before .before .if3 .taken) (c .before .whole-size .ensures)
-
-whole-size-requires-2 : tie.Need-whole-size-requires-2
-whole-size-requires-2 c κs = search needs
 
 int-to-float-result-2 : tie.Need-int-to-float-result-2
 int-to-float-result-2 c =
@@ -50,4 +44,4 @@ returns-4 c =
     whole-minus _ (e .before .before .args .x) (held (e .before .before)) (real (e .before)) (c .before .whole-size2 .result) (e .if2 .left) (c .before .before .if3 .left) (c .before .whole-size2 .ensures)
 
 pub whole-spec : {M : Type 1} → statement M
-whole-spec = tie.close (tie.spec returns float-to-bits-b returns-2 whole-size-requires int-to-float-result returns-3 whole-size-requires-2 int-to-float-result-2 returns-4)
+whole-spec = tie.close (tie.spec returns float-to-bits-b returns-2 (λ c κs. search needs) int-to-float-result returns-3 (λ c κs. search needs) int-to-float-result-2 returns-4)

@@ -21,36 +21,6 @@ abbrev μ-loop : tie.MeasureT-loop
 loop-holds : tie.Need-loop-holds Inv-loop μ-loop
 loop-holds c = (omega arith, filled-start (c .pre .1), filled-start (c .pre .2))
 
-mul-s : tie.Need-mul-s Inv-loop μ-loop
-mul-s c = search needs
-
-shared-slice-read-s : tie.Need-shared-slice-read-s Inv-loop μ-loop
-shared-slice-read-s c = search needs
-
-mul-d : tie.Need-mul-d Inv-loop μ-loop
-mul-d c = search needs
-
-shared-slice-read-d : tie.Need-shared-slice-read-d Inv-loop μ-loop
-shared-slice-read-d c = search needs
-
-mul-left : tie.Need-mul-left Inv-loop μ-loop
-mul-left c = search needs
-
-slice-write-left : tie.Need-slice-write-left Inv-loop μ-loop
-slice-write-left c = search needs
-
-mul-right : tie.Need-mul-right Inv-loop μ-loop
-mul-right c = search needs
-
-slice-write-right : tie.Need-slice-write-right Inv-loop μ-loop
-slice-write-right c = search needs
-
-add-i : tie.Need-add-i Inv-loop μ-loop
-add-i c = omega arith
-
-loop-less : tie.Need-loop-less Inv-loop μ-loop
-loop-less c = omega arith
-
 loop-again : tie.Need-loop-again Inv-loop μ-loop
 loop-again c =
     let k = c .before .before .before .loop .inv in
@@ -64,7 +34,7 @@ same-length-2 : tie.Need-same-length-2 Inv-loop μ-loop
 same-length-2 c = c .before .loop .inv .2 .size ∙ sym (c .before .before .pre .2)
 
 returns : tie.Need-returns Inv-loop μ-loop
-returns c = let k = c .before .loop .inv in (filled-end (k .1) (k .0) (c .loop-test .left), filled-end (k .2) (k .0) (c .loop-test .left))
+returns c = let k = c .before .loop .inv in rw (filled-end (k .1) (k .0) (c .loop-test .left), filled-end (k .2) (k .0) (c .loop-test .left))
 
 pub fill-f32-spec : {M : Type 1} → statement M
 fill-f32-spec =
@@ -73,16 +43,16 @@ fill-f32-spec =
     Inv-loop
     μ-loop
     loop-holds
-    mul-s
-    shared-slice-read-s
-    mul-d
-    shared-slice-read-d
-    mul-left
-    slice-write-left
-    mul-right
-    slice-write-right
-    add-i
-    loop-less
+    (λ c. search needs)
+    (λ c. search needs)
+    (λ c. search needs)
+    (λ c. search needs)
+    (λ c. search needs)
+    (λ c. search needs)
+    (λ c. search needs)
+    (λ c. search needs)
+    (λ c. omega arith)
+    (λ c. omega arith)
     loop-again
     same-length
     same-length-2

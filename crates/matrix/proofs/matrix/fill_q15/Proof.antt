@@ -27,42 +27,6 @@ abbrev μ-loop : tie.MeasureT-loop
 loop-holds : tie.Need-loop-holds Inv-loop μ-loop
 loop-holds c = (omega arith, filled-start (c .pre .1), filled-start (c .pre .2))
 
-mul-s : tie.Need-mul-s Inv-loop μ-loop
-mul-s c = search needs
-
-shared-slice-copy-out-s : tie.Need-shared-slice-copy-out-s Inv-loop μ-loop
-shared-slice-copy-out-s c = search needs
-
-mul-d : tie.Need-mul-d Inv-loop μ-loop
-mul-d c = search needs
-
-shared-slice-copy-out-d : tie.Need-shared-slice-copy-out-d Inv-loop μ-loop
-shared-slice-copy-out-d c = search needs
-
-left-q15-requires : tie.Need-left-q15-requires Inv-loop μ-loop
-left-q15-requires c κs = search needs
-
-mul-right : tie.Need-mul-right Inv-loop μ-loop
-mul-right c = search needs
-
-slice-set-from-right : tie.Need-slice-set-from-right Inv-loop μ-loop
-slice-set-from-right c = search needs
-
-right-q15-requires : tie.Need-right-q15-requires Inv-loop μ-loop
-right-q15-requires c κs = search needs
-
-mul-t8 : tie.Need-mul-t8 Inv-loop μ-loop
-mul-t8 c = search needs
-
-slice-set-from-right-2 : tie.Need-slice-set-from-right-2 Inv-loop μ-loop
-slice-set-from-right-2 c = search needs
-
-add-i : tie.Need-add-i Inv-loop μ-loop
-add-i c = omega arith
-
-loop-less : tie.Need-loop-less Inv-loop μ-loop
-loop-less c = omega arith
-
 loop-again : tie.Need-loop-again Inv-loop μ-loop
 loop-again c =
     let l = c .before in
@@ -84,7 +48,7 @@ same-length-2 : tie.Need-same-length-2 Inv-loop μ-loop
 same-length-2 c = c .before .loop .inv .2 .size ∙ sym (c .before .before .pre .2)
 
 returns : tie.Need-returns Inv-loop μ-loop
-returns c = let k = c .before .loop .inv in (filled-end (k .1) (k .0) (c .loop-test .left), filled-end (k .2) (k .0) (c .loop-test .left))
+returns c = let k = c .before .loop .inv in rw (filled-end (k .1) (k .0) (c .loop-test .left), filled-end (k .2) (k .0) (c .loop-test .left))
 
 pub fill-q15-spec : {M : Type 1} → statement M
 fill-q15-spec =
@@ -93,18 +57,18 @@ fill-q15-spec =
     Inv-loop
     μ-loop
     loop-holds
-    mul-s
-    shared-slice-copy-out-s
-    mul-d
-    shared-slice-copy-out-d
-    left-q15-requires
-    mul-right
-    slice-set-from-right
-    right-q15-requires
-    mul-t8
-    slice-set-from-right-2
-    add-i
-    loop-less
+    (λ c. search needs)
+    (λ c. search needs)
+    (λ c. search needs)
+    (λ c. search needs)
+    (λ c κs. search needs)
+    (λ c. search needs)
+    (λ c. search needs)
+    (λ c κs. search needs)
+    (λ c. search needs)
+    (λ c. search needs)
+    (λ c. omega arith)
+    (λ c. omega arith)
     loop-again
     same-length
     same-length-2

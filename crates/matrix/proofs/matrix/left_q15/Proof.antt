@@ -8,12 +8,6 @@ use Rattle.matrix.proofs.Twice.{plus-twice}
 use Rattle.matrix.proofs.matrix.left_q15.Statement.{statement}
 use Rattle.matrix.proofs.matrix.left_q15.Tie as tie
 
-q15-add-sat-requires : tie.Need-q15-add-sat-requires
-q15-add-sat-requires c κs = search needs
-
-q15-add-sat-requires-2 : tie.Need-q15-add-sat-requires-2
-q15-add-sat-requires-2 c κs = search needs
-
 returns : tie.Need-returns
 unfolding leftQ15
 returns c =
@@ -24,4 +18,4 @@ returns c =
     ∙ rw (back w16 (one .result) (one .ok), one .ensures, toZ-ofZ (b .fits .s), toZ-ofZ (b .fits .d)) (plus-twice (b .args .s) (b .args .d) (b .fits .s))
 
 pub left-q15-spec : {M : Type 1} → statement M
-left-q15-spec = tie.close (tie.spec q15-add-sat-requires q15-add-sat-requires-2 returns)
+left-q15-spec = tie.close (tie.spec (λ c κs. search needs) (λ c κs. search needs) returns)

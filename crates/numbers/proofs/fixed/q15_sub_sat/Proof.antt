@@ -1,30 +1,19 @@
 use borrow.Author.Needs.{needs}
-use mathlib.Core.Path.{_∙_}
+use mathlib.Core.Path.{ap, _∙_}
+use lib.IntN.{_-ℤ_}
 use mir.Syntax.{w16}
-use mir.Facts.{toZ-ofZ}
 use Rattle.rounding.proofs.Lin.{back}
-use Rattle.numbers.proofs.Integers.{widen, wide, difference-fits}
+use Rattle.numbers.specs.Integers.{sat16Of}
+use Rattle.numbers.proofs.Integers.{widen, difference-fits, cast-held, cast-difference}
 use Rattle.numbers.proofs.fixed.q15_sub_sat.Statement.{statement}
 use Rattle.numbers.proofs.fixed.q15_sub_sat.Tie as tie
-
-cast-sat16 : tie.Need-cast-sat16
-cast-sat16 c = search (needs, widen)
-
-cast-sat16-2 : tie.Need-cast-sat16-2
-cast-sat16-2 c = search (needs, widen)
-
-sub-sat16 : tie.Need-sub-sat16
-sub-sat16 c = rw (wide (c .fits .a), wide (c .fits .b)) (difference-fits _ _ (c .fits .a) (c .fits .b))
-
-sat16-requires : tie.Need-sat16-requires
-sat16-requires c κs = search needs
 
 returns : tie.Need-returns
 returns c =
     let s = c .before in
     back w16 (c .sat16 .result) (c .sat16 .ok)
     ∙ c .sat16 .ensures
-    ∙ rw (wide (s .fits .a), wide (s .fits .b), toZ-ofZ (difference-fits _ _ (s .fits .a) (s .fits .b)))
+    ∙ ap sat16Of (cast-held _-ℤ_ (s .fits .a) (s .fits .b) (difference-fits _ _ (s .fits .a) (s .fits .b)))
 
 pub q15-sub-sat-spec : {M : Type 1} → statement M
-q15-sub-sat-spec = tie.close (tie.spec cast-sat16 cast-sat16-2 sub-sat16 sat16-requires returns)
+q15-sub-sat-spec = tie.close (tie.spec (λ c. search (needs, widen)) (λ c. search (needs, widen)) (λ c. search (needs, cast-difference)) (λ c κs. search needs) returns)

@@ -1,4 +1,5 @@
--- `num::round_shift` meets its contract. Each lemma takes what the machine holds (Y for x, H for the half, Z for the difference) with the equation that says what it is. Assumes nothing.
+-- `num::round_shift` meets its contract. Each lemma takes what the machine holds (Y for x, H for the half, Z
+-- for the difference) with the equation that says what it is. Assumes nothing.
 use Prim.Native.Nat.{ℕ, _-_, _*_, _%_, _^_, _<_, _≤_}
 use mathlib.Core.Path.{_≡_, sym, _∙_}
 use mathlib.Core.Bool.{Bool, true, false, cond}
@@ -96,21 +97,6 @@ returns-2 c = sign-is (c .before .before .if1 .left) (c .before .if2 .taken) (to
 returns-3 : tie.Need-returns-3
 returns-3 c = sign-is (c .before .before .if1 .left) (c .before .if2 .taken) (toZ-ofZ (c .before .before .before .fits .x)) (c .if3 .left)
 
-sub-half : tie.Need-sub-half
-sub-half c = search needs
-
-cast-half : tie.Need-cast-half
-cast-half c = search needs
-
-shl-half : tie.Need-shl-half
-shl-half c = search needs
-
-cast-result : tie.Need-cast-result
-cast-result c = search needs
-
-shr-result : tie.Need-shr-result
-shr-result c = search needs
-
 returns-4 : tie.Need-returns-4
 returns-4 c =
     let b = c .before in
@@ -119,12 +105,6 @@ returns-4 c =
 
 add-result : tie.Need-add-result
 add-result c = rw (eY (c .before), eH (c .before)) (add-fits _ _ (c .before .before .before .fits .x) (small c))
-
-cast-result-2 : tie.Need-cast-result-2
-cast-result-2 c = search needs
-
-shr-result-2 : tie.Need-shr-result-2
-shr-result-2 c = search needs
 
 returns-5 : tie.Need-returns-5
 returns-5 c =
@@ -136,4 +116,4 @@ returns-5 c =
 pub round-shift-spec : {M : Type 1} → statement M
 round-shift-spec =
     tie.close
-    (tie.spec returns returns-2 returns-3 sub-half cast-half shl-half sub-if4 cast-result shr-result returns-4 add-result cast-result-2 shr-result-2 returns-5)
+    (tie.spec returns returns-2 returns-3 (λ c. search needs) (λ c. search needs) (λ c. search needs) sub-if4 (λ c. search needs) (λ c. search needs) returns-4 add-result (λ c. search needs) (λ c. search needs) returns-5)

@@ -7,12 +7,9 @@ use Rattle.numbers.specs.Scaled.{scaledOf}
 use Rattle.numbers.proofs.scale.floor_scaled.Statement.{statement}
 use Rattle.numbers.proofs.scale.floor_scaled.Tie as tie
 
-floor-to-i64-requires : tie.Need-floor-to-i64-requires
-floor-to-i64-requires c κs = search needs
-
 returns : tie.Need-returns
 unfolding scaledOf ofBits
 returns c = let t = c .floor-to-i64 in back w64 (t .result) (t .ok) ∙ t .ensures
 
 pub floor-scaled-spec : {M : Type 1} → statement M
-floor-scaled-spec = tie.close (tie.spec floor-to-i64-requires returns)
+floor-scaled-spec = tie.close (tie.spec (λ c κs. search needs) returns)

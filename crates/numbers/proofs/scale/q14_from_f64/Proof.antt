@@ -1,6 +1,6 @@
 use borrow.Author.Needs.{needs}
 use mathlib.Core.Path.{_≡_, refl, sym, ap, _∙_, subst}
-use mathlib.Core.Bool.{Bool, true, false, _||_, cond}
+use mathlib.Core.Bool.{Bool, true, false, not, _||_}
 use native.Mathlib.Omega.{arith}
 use lib.Dec.{T}
 use lib.IntN.{ℤ, pos, negsuc}
@@ -13,15 +13,16 @@ use mir.Val.{SFits, toZ, ofZ}
 use mir.Facts.{toZ-ofZ}
 use Rattle.rounding.proofs.Lin.{back, lt-no, fit-in}
 use Rattle.rounding.proofs.Own.{not-nan}
-use Rattle.numbers.specs.Scaled.{scaledOf, Answer, value, refusal, q14FromOf}
+use Rattle.numbers.specs.Scaled.{scaledOf, q14FromOf}
+use Rattle.answers.specs.Answer.{Built, made, refused, builtBy, rule}
 use Rattle.numbers.proofs.scale.q14_from_f64.Statement.{statement}
 use Rattle.numbers.proofs.scale.q14_from_f64.Tie as tie
 
 -- the definition by the outcomes of its tests
-abbrev answer : Bool → Bool → Bool → ℤ → Answer
-answer a b c v = cond (a || (b || c)) (refusal 18) (value v)
+abbrev answer : Bool → Bool → Bool → ℤ → Built ℤ
+answer a b c v = builtBy (rule 18 (not (a || (b || c)))) v
 
-none : (x : Float) → ne x x ≡ true → refusal 18 ≡ q14FromOf x
+none : (x : Float) → ne x x ≡ true → refused 18 ≡ q14FromOf x
 unfolding q14FromOf isNan
 none x h = ap q14FromOf (sym (differs-from-itself x (subst T (sym h) tt)))
 
@@ -31,13 +32,13 @@ module _ (x : Float) {v Y : ℤ} (real : ne x x ≡ false) (e : v ≡ scaledOf x
   unfolding q14FromOf
   known p q = rw (← e, ← back, p, q, is-false (isNan x) (not-nan x real))
 
-  low : ltZ Y (negsuc 32767) ≡ true → refusal 18 ≡ q14FromOf x
+  low : ltZ Y (negsuc 32767) ≡ true → refused 18 ≡ q14FromOf x
   low p = known p refl
 
-  high : ltZ Y (negsuc 32767) ≡ false → ltZ (pos 32767) Y ≡ true → refusal 18 ≡ q14FromOf x
+  high : ltZ Y (negsuc 32767) ≡ false → ltZ (pos 32767) Y ≡ true → refused 18 ≡ q14FromOf x
   high p q = known p q
 
-  within : ltZ Y (negsuc 32767) ≡ false → ltZ (pos 32767) Y ≡ false → value Y ≡ q14FromOf x
+  within : ltZ Y (negsuc 32767) ≡ false → ltZ (pos 32767) Y ≡ false → made Y ≡ q14FromOf x
   within p q = known p q
 
 fits : (Y : ℤ) → ltZ Y (negsuc 32767) ≡ false → ltZ (pos 32767) Y ≡ false → SFits w16 Y
@@ -48,9 +49,6 @@ read c = back w64 (c .floor-scaled .result) (c .floor-scaled .ok)
 
 returns : tie.Need-returns
 returns c = none (c .before .args .x) (c .if1 .taken)
-
-floor-scaled-requires : tie.Need-floor-scaled-requires
-floor-scaled-requires c κs = search needs
 
 returns-2 : tie.Need-returns-2
 unfolding ofBits
@@ -67,7 +65,7 @@ returns-4 : tie.Need-returns-4
 unfolding ofBits
 returns-4 c =
     let v = c .before .before in
-    ap value (toZ-ofZ (fits _ (c .before .if2 .left) (c .if3 .left))) ∙ within (v .before .before .args .x) (v .before .if1 .left) (v .floor-scaled .ensures) (read v) (c .before .if2 .left) (c .if3 .left)
+    ap made (toZ-ofZ (fits _ (c .before .if2 .left) (c .if3 .left))) ∙ within (v .before .before .args .x) (v .before .if1 .left) (v .floor-scaled .ensures) (read v) (c .before .if2 .left) (c .if3 .left)
 
 pub q14-from-f64-spec : {M : Type 1} → statement M
-q14-from-f64-spec = tie.close (tie.spec returns floor-scaled-requires returns-2 returns-3 cast-t4 returns-4)
+q14-from-f64-spec = tie.close (tie.spec returns (λ c κs. search needs) returns-2 returns-3 cast-t4 returns-4)

@@ -6,12 +6,6 @@ use Rattle.rounding.proofs.Lin.{back}
 use Rattle.numbers.proofs.scale.q15_from_f64.Statement.{statement}
 use Rattle.numbers.proofs.scale.q15_from_f64.Tie as tie
 
-floor-scaled-requires : tie.Need-floor-scaled-requires
-floor-scaled-requires c κs = search needs
-
-sat16-requires : tie.Need-sat16-requires
-sat16-requires c κs = search needs
-
 returns : tie.Need-returns
 unfolding ofBits
 returns c =
@@ -19,4 +13,4 @@ returns c =
     back w16 (c .sat16 .result) (c .sat16 .ok) ∙ c .sat16 .ensures ∙ rw (back w64 (v .result) (v .ok), v .ensures)
 
 pub q15-from-f64-spec : {M : Type 1} → statement M
-q15-from-f64-spec = tie.close (tie.spec floor-scaled-requires sat16-requires returns)
+q15-from-f64-spec = tie.close (tie.spec (λ c κs. search needs) (λ c κs. search needs) returns)

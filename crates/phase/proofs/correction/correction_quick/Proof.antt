@@ -10,21 +10,9 @@ served : (c : tie.Then2) → Ranged (scaled (c .before .before .f32-to-f64 .resu
 unfolding ofBits neg
 served c = ranged _ (c .before .if1 .taken) (c .if2 .taken)
 
-f32-to-f64-requires : tie.Need-f32-to-f64-requires
-f32-to-f64-requires c κs = search needs
-
 float-to-bits-low : tie.Need-float-to-bits-low
 unfolding ofBits
 float-to-bits-low c = sum-real (served c)
-
-cast-low : tie.Need-cast-low
-cast-low c = search needs
-
-cast-up : tie.Need-cast-up
-cast-up c = search needs
-
-wrapping-sub-u32-requires : tie.Need-wrapping-sub-u32-requires
-wrapping-sub-u32-requires c κs = search needs
 
 returns : tie.Need-returns
 unfolding ofBits neg
@@ -42,4 +30,4 @@ unfolding ofBits neg
 returns-3 c = quick-by (c .before .f32-to-f64 .ensures) (c .if1 .left) refl
 
 pub correction-quick-spec : {M : Type 1} → statement M
-correction-quick-spec = tie.close (tie.spec f32-to-f64-requires float-to-bits-low cast-low cast-up wrapping-sub-u32-requires returns returns-2 returns-3)
+correction-quick-spec = tie.close (tie.spec (λ c κs. search needs) float-to-bits-low (λ c. search needs) (λ c. search needs) (λ c κs. search needs) returns returns-2 returns-3)

@@ -5,12 +5,6 @@ use Rattle.phase.proofs.Cosine.{frac-cast, cosF32-at, cosF32-lacks}
 use Rattle.phase.proofs.lookup.cos_f32.Statement.{statement}
 use Rattle.phase.proofs.lookup.cos_f32.Tie as tie
 
-cast-i : tie.Need-cast-i
-cast-i c = search needs
-
-add-if1 : tie.Need-add-if1
-add-if1 c = search needs
-
 returns : tie.Need-returns
 unfolding ofBits
 returns c = let a = c .before .args in cosF32-lacks (a .table .now) (a .p) refl (c .if1 .taken)
@@ -18,25 +12,10 @@ returns c = let a = c .before .args in cosF32-lacks (a .table .now) (a .p) refl 
 int-to-float-f : tie.Need-int-to-float-f
 int-to-float-f c = frac-cast (c .before .before .args .p)
 
-mul-a : tie.Need-mul-a
-mul-a c = search needs
-
-shared-slice-read-a : tie.Need-shared-slice-read-a
-shared-slice-read-a c = search needs
-
-add-b : tie.Need-add-b
-add-b c = search needs
-
-mul-b : tie.Need-mul-b
-mul-b c = search needs
-
-shared-slice-read-b : tie.Need-shared-slice-read-b
-shared-slice-read-b c = search needs
-
 returns-2 : tie.Need-returns-2
 returns-2 c = let e = c .before .before .before in cosF32-at (e .before .args .table .now) (e .before .args .p) refl refl (e .if1 .left)
 
 pub cos-f32-spec : {M : Type 1} → statement M
 cos-f32-spec =
     tie.close
-    (tie.spec cast-i add-if1 returns int-to-float-f mul-a shared-slice-read-a add-b mul-b shared-slice-read-b returns-2)
+    (tie.spec (λ c. search needs) (λ c. search needs) returns int-to-float-f (λ c. search needs) (λ c. search needs) (λ c. search needs) (λ c. search needs) (λ c. search needs) returns-2)

@@ -8,35 +8,16 @@ use Rattle.phase.proofs.lookup.interp_q15.Tie as tie
 both : (c : tie.After-b) → let a = c .before .before .before .args in Found (a .table .now) (a .p)
 both c = let a = c .before .before .before .args in found (a .table .now) (a .p) (c .before .a .given) (c .b .given)
 
-cast-i : tie.Need-cast-i
-cast-i c = search needs
-
-add-if1 : tie.Need-add-if1
-add-if1 c = search needs
-
 returns : tie.Need-returns
 returns c = let a = c .before .args in cosQ15-lacks (a .table .now) (a .p) (c .if1 .taken)
 
-cast-f : tie.Need-cast-f
-cast-f c = search needs
-
-mul-a : tie.Need-mul-a
-mul-a c = search needs
-
-shared-slice-copy-out-a : tie.Need-shared-slice-copy-out-a
-shared-slice-copy-out-a c = search needs
+returns-2 : tie.Need-returns-2
+returns-2 c =
+    let e = c .before .before in
+    result-held w32 tt (both c) (shift-held w32 tt (both c)) ∙ sym (between-is (both c)) ∙ cosQ15-at (e .before .args .table .now) (e .before .args .p) (e .if1 .left)
 
 cast-a : tie.Need-cast-a
 cast-a c = let a = c .before .before .args in entry-fits w32 tt (entry-at (a .table .now) (a .p)) (c .a .given)
-
-add-b : tie.Need-add-b
-add-b c = search needs
-
-mul-b : tie.Need-mul-b
-mul-b c = search needs
-
-shared-slice-copy-out-b : tie.Need-shared-slice-copy-out-b
-shared-slice-copy-out-b c = search needs
 
 cast-b : tie.Need-cast-b
 cast-b c = let a = c .before .before .before .args in entry-fits w32 tt (entry-after (a .table .now) (a .p)) (c .b .given)
@@ -53,12 +34,7 @@ add-result c = half-fits w32 tt (both c)
 add-result-2 : tie.Need-add-result-2
 add-result-2 c = result-fits w32 tt (both c) (shift-held w32 tt (both c))
 
-returns-2 : tie.Need-returns-2
-returns-2 c =
-    let e = c .before .before in
-    result-held w32 tt (both c) (shift-held w32 tt (both c)) ∙ sym (between-is (both c)) ∙ cosQ15-at (e .before .args .table .now) (e .before .args .p) (e .if1 .left)
-
 pub interp-q15-spec : {M : Type 1} → statement M
 interp-q15-spec =
     tie.close
-    (tie.spec cast-i add-if1 returns cast-f mul-a shared-slice-copy-out-a cast-a add-b mul-b shared-slice-copy-out-b cast-b sub-result mul-result add-result add-result-2 returns-2)
+    (tie.spec (λ c. search needs) (λ c. search needs) returns (λ c. search needs) (λ c. search needs) (λ c. search needs) cast-a (λ c. search needs) (λ c. search needs) (λ c. search needs) cast-b sub-result mul-result add-result add-result-2 returns-2)

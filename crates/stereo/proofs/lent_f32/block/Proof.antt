@@ -1,5 +1,8 @@
--- The F32 entry meets its contract: a walk of its MIR, by hand. The record's borrow is opened, the record is copied out and passed to the fast block with the slices, what that returns is stored, and the borrow is closed at that record.
--- Of each `&` slice the block gets a copy; each `&mut` slice is given up for good to the block, which says its last list. All that is known of the block is that it meets its contract. Assumes nothing.
+-- The F32 entry meets its contract: a walk of its MIR, by hand. The record's borrow is opened, the record is
+-- copied out and passed to the fast block with the slices, what that returns is stored, and the borrow is
+-- closed at that record.
+-- Of each `&` slice the block gets a copy; each `&mut` slice is given up for good to the block, which says its
+-- last list. All that is known of the block is that it meets its contract. Assumes nothing.
 use mathlib.Core.Path.{_≡_, refl, ap, subst}
 use Prim.Native.Nat.{ℕ}
 use mathlib.Core.List.{[], _∷_, List}
@@ -44,20 +47,20 @@ use denote.Triple.Walked.{says, Stays, stay-ref, stay-none-slice, gave-slice, wa
 use denote.Exit.{yes}
 use Rattle.answers.specs.Answer.{says as told}
 use Rattle.decoder.specs.Machine.{Blocked, blockOf}
-use Rattle.decoder.specs.Formats.{f32 as arithmetic}
+use Rattle.decoder.specs.F32.{f32 as arithmetic}
 use Rattle.decoder_record.specs.Records.{pllF32}
 use Rattle.decoder_record.specs.declared.pll_f32.StereoPllF32.{StereoPllF32}
-use Rattle.decoder.specs.declared.parts_f32.ReplyF32.{ReplyF32}
+use Rattle.decoder.specs.declared.parts.ReplyF32.{ReplyF32}
 use Rattle.decoder_record.proofs.pll_f32.StereoPllF32 as T
 use Rattle.decoder_record.proofs.pll_f32.StereoPllF32.Laws as T′
 use Rattle.answers.proofs.answer.Answer as E
 use Rattle.answers.proofs.answer.Answer.Laws as E′
-use Rattle.decoder.proofs.parts_f32.ReplyF32 as P
-use Rattle.decoder.proofs.parts_f32.ReplyF32.Laws as P′
-use Rattle.decoder.proofs.fast_f32.block as g
-use Rattle.decoder.proofs.fast_f32.block.Symbol as g-def
-use Rattle.decoder.proofs.fast_f32.block.Symbol.{name as #g}
-use Rattle.decoder.proofs.fast_f32.block.Met as g-thm
+use Rattle.decoder.proofs.parts.ReplyF32 as P
+use Rattle.decoder.proofs.parts.ReplyF32.Laws as P′
+use Rattle.decoder.proofs.fast.block as g
+use Rattle.decoder.proofs.fast.block.Symbol as g-def
+use Rattle.decoder.proofs.fast.block.Symbol.{name as #g}
+use Rattle.decoder.proofs.fast.block.Met as g-thm
 use Rattle.stereo.proofs.lent_f32.block.Key.{name as #f}
 use Rattle.stereo.proofs.lent_f32.block as f
 use Rattle.stereo.proofs.lent_f32.block.Statement as stated
@@ -151,7 +154,8 @@ module _ {M : Type 1} (𝓤 : URA M) (H : Heap 𝓤) (A : Atoms 𝓤) (W : Given
         move ! (26 ∷ 27 ∷ 28 ∷ []) $ opens ! tt T.the-row {h = h} b o (λ vs. spelt ! T.the-row (Is T.the-row) (shows 𝓤 H A T.the-row) (λ (u : StereoPllF32). T′.lowered u ∷ []) (T′.lowers .val-is) fullShare h vs b o $
         use1 W (‵ (fat fullShare T′.mir b o (T′.lowered h))) (W .laws .raw-at fullShare T′.mir b o (T′.lowered h)) $
         move ! (1 ∷ []) $ peeks ! T.the-row (Is T.the-row) (shows 𝓤 H A T.the-row) h (T′.lowered h ∷ []) (λ was. move ! (1 ∷ 0 ∷ []) $
-        -- [the record's cell; what it owns; the open borrow; obs; auth; _12 at 5; …; _0 at 29; …; what the slices own; Op; Om; Ot; the slices' tokens]
+        -- [the record's cell; what it owns; the open borrow; obs; auth; _12 at 5; …; _0 at 29; …; what the
+        -- slices own; Op; Om; Ot; the slices' tokens]
         assigns ! (of-opd ! (load ! (from ! (hop ! (look ! 27 refl) (stop !))) (look-in ! 0 (whole !)))) (from ! (stop !)) (init ! 13 refl (LL.lawful T.the-type T′.the-laws 𝓤 H A W .typed h _ was .0)) $
         assigns ! (addr ! (from ! (fld ! refl (hop ! (look-in ! 19 (sub ! 0 refl (whole !))) (stop !))))) (from ! (stop !)) (init ! 11 refl (tt, tt)) $
         assigns ! (agg ! (and-then ! (load ! (from ! (stop !)) (look ! 11 refl)) (and-then ! (load ! (from ! (fld ! refl (stop !))) (look-in ! 19 (sub ! 1 refl (whole !)))) (no-more !)))) (from ! (stop !)) (init ! 9 refl (tt, (tt, (record { fits = rs .0 }, tt)))) $
@@ -164,7 +168,8 @@ module _ {M : Type 1} (𝓤 : URA M) (H : Heap 𝓤) (A : Atoms 𝓤) (W : Given
         split ! $ move ! (1 ∷ []) $ use1 W (some (λ (ws : Unit {0} × (Unit {0} × (Unit {0} × (Unit {0} × (List Float × (List Float × Unit {0})))))). ‵ (lasts g.ended κs passed ws) ⊛ raw (fact 𝓤 (Claim r (ws .1 .1 .1 .1 .0) (ws .1 .1 .1 .1 .1 .0))))) (id⊢ 𝓤 _) $ pick ! (λ ws.
         split ! $ move ! (1 ∷ []) $ heard ! (Claim r (ws .1 .1 .1 .1 .0) (ws .1 .1 .1 .1 .1 .0)) (λ e. fsplit ! $ drop ! $ fsplit ! $ drop ! $ fsplit ! $ drop ! $ fsplit ! $ drop ! $ fsplit ! $ fsplit ! $ move ! (1 ∷ []) $ feqL ! (λ ly.
         move ! (1 ∷ []) $ fsplit ! $ fsplit ! $ move ! (1 ∷ []) $ feqL ! (λ lz. move ! (1 ∷ []) $ drop ! $ move ! (2 ∷ []) $ split ! $ move ! (1 ∷ []) $
-        -- [what the reply owns; the slices' tokens; difference's last list; sum's; the record's cell; the open borrow; obs; auth; _12 at 8; …; _0 at 32; …; Op; Om; Ot]
+        -- [what the reply owns; the slices' tokens; difference's last list; sum's; the record's cell; the open
+        -- borrow; obs; auth; _12 at 8; …; _0 at 32; …; Op; Om; Ot]
         peeks ! P.the-row (Is P.the-row) (shows 𝓤 H A P.the-row) r (v ∷ []) (λ is.
         let fields = LL.owed P.the-type P′.the-laws r _ is in
         let answer = subst (λ (vs : List Val). Is E.the-row (r .answer) vs) (E′.the-field-laws .low-is (r .answer) _ (fields .0)) (fields .0) in
@@ -175,7 +180,8 @@ module _ {M : Type 1} (𝓤 : URA M) (H : Heap 𝓤) (A : Atoms 𝓤) (W : Given
         owned ! T.the-row (Is T.the-row) (LL.makes T.the-type T′.the-plain 𝓤 H A) (r .decoder) _ (fields .1 .0) $
         move ! (5 ∷ []) $ use1 W (‵ (cellAt fullShare (T.the-row .mir) (T′.lowered (r .decoder) ∷ []) b o)) (W .laws .at-raw fullShare T′.mir b o (T′.lowered (r .decoder))) $
         move ! (0 ∷ 1 ∷ 6 ∷ 7 ∷ 8 ∷ []) $ closes ! tt T.the-row (r .decoder) (T′.lowered (r .decoder) ∷ []) b o $
-        -- [obs; the borrow; its token; what the reply owns; the slices' tokens; difference's; sum's; _12 at 7; …; _0 at 31; …; Op; Om; Ot]
+        -- [obs; the borrow; its token; what the reply owns; the slices' tokens; difference's; sum's; _12 at 7;
+        -- …; _0 at 31; …; Op; Om; Ot]
         returns ! (look ! 31 refl) $ forget ! 7 refl $ forget ! 9 refl $ forget ! 11 refl $ forget ! 13 refl $ forget ! 15 refl $ forget ! 17 refl $ forget ! 19 refl $ forget ! 21 refl $ forget ! 23 refl $ forget ! 25 refl $ forget ! 27 refl $ forget ! 29 refl $ forget ! 31 refl $
         move ! (31 ∷ 32 ∷ []) $ free1 ! $ move ! (29 ∷ 30 ∷ []) $ free1 ! $ move ! (27 ∷ 28 ∷ []) $ free1 ! $ move ! (25 ∷ 26 ∷ []) $ free1 ! $ move ! (23 ∷ 24 ∷ []) $ free1 ! $ move ! (21 ∷ 22 ∷ []) $ free1 ! $ move ! (19 ∷ 20 ∷ []) $ free1 ! $ move ! (17 ∷ 18 ∷ []) $ free1 ! $ move ! (15 ∷ 16 ∷ []) $ free1 ! $ move ! (13 ∷ 14 ∷ []) $ free1 ! $ move ! (11 ∷ 12 ∷ []) $ free1 ! $ move ! (9 ∷ 10 ∷ []) $ free1 ! $ move ! (7 ∷ 8 ∷ []) $ free1 ! $ free0 ! $
         keep ! (0 ∷ 1 ∷ 2 ∷ 4 ∷ 5 ∷ 6 ∷ 7 ∷ 8 ∷ 9 ∷ []) $ by ! (exits r (ws .1 .1 .1 .1 .0) (ws .1 .1 .1 .1 .1 .0) e ly lz answer)))))))))))))))))))))))
@@ -197,4 +203,4 @@ block-spec 𝓤 H 𝓜 𝓖 𝓡 =
     entered 𝓤 H (tripleOf 𝓤 H (𝓖 .A) f.signature (f.spec 𝓤 H (𝓖 .A) (𝓜 .mem) (𝓡 .run)))
     (tables 𝓤 H 𝓜 𝓡 code.env .C) (tables 𝓤 H 𝓜 𝓡 code.env .Λ) #f code.function (code.unfolded 𝓤 H 𝓜 𝓡)
     (meets 𝓤 H (𝓖 .A) (givenOf 𝓤 H 𝓜 𝓖) (𝓜 .mem) (𝓡 .run) (tablesOf 𝓤 H 𝓜 (tables 𝓤 H 𝓜 𝓡 code.env))
-    (cited 𝓤 H (Core 𝓤 H (𝓖 .A) (𝓜 .mem) (𝓡 .run)) 𝓜 𝓡 code.env #g g-def.routine code.calls-decoder·fast-f32·block (g-thm.met 𝓤 H 𝓜 𝓖 𝓡)))
+    (cited 𝓤 H (Core 𝓤 H (𝓖 .A) (𝓜 .mem) (𝓡 .run)) 𝓜 𝓡 code.env #g g-def.routine code.calls-decoder·fast·block (g-thm.met 𝓤 H 𝓜 𝓖 𝓡)))

@@ -16,38 +16,11 @@ has-requires c κs = tt
 loop-holds : tie.Need-loop-holds Inv-loop μ-loop
 loop-holds c = tt
 
-mul-at : tie.Need-mul-at Inv-loop μ-loop
-mul-at c = search needs
-
-add-at : tie.Need-add-at Inv-loop μ-loop
-add-at c = search needs
-
 has-requires-2 : tie.Need-has-requires-2 Inv-loop μ-loop
 has-requires-2 c κs = tt
 
-add-word : tie.Need-add-word Inv-loop μ-loop
-add-word c = search needs
-
 word-requires : tie.Need-word-requires Inv-loop μ-loop
 word-requires c κs = tt
-
-enum-known-v : tie.Need-enum-known-v Inv-loop μ-loop
-enum-known-v c = search needs
-
-mul-out : tie.Need-mul-out Inv-loop μ-loop
-mul-out c = search needs
-
-element-write-out : tie.Need-element-write-out Inv-loop μ-loop
-element-write-out c = search needs
-
-enum-told : tie.Need-enum-told Inv-loop μ-loop
-enum-told c = search needs
-
-add-k : tie.Need-add-k Inv-loop μ-loop
-add-k c = search needs
-
-loop-less : tie.Need-loop-less Inv-loop μ-loop
-loop-less c = search needs
 
 loop-again : tie.Need-loop-again Inv-loop μ-loop
 loop-again c = tt
@@ -63,16 +36,16 @@ read-spec =
     μ-loop
     has-requires
     loop-holds
-    mul-at
-    add-at
+    (λ c. search needs)
+    (λ c. search needs)
     has-requires-2
-    add-word
+    (λ c. search needs)
     word-requires
-    enum-known-v
-    mul-out
-    element-write-out
-    enum-told
-    add-k
-    loop-less
+    (λ c. search needs)
+    (λ c. search needs)
+    (λ c. search needs)
+    (λ c. search needs)
+    (λ c. search needs)
+    (λ c. search needs)
     loop-again
     returns)

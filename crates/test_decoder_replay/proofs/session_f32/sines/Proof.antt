@@ -1,4 +1,5 @@
--- `test_decoder_replay::session_f32::sines` is safe and ends. The measure is how many samples are left. Assumes nothing.
+-- `test_decoder_replay::session_f32::sines` is safe and ends. The measure is how many samples are left.
+-- Assumes nothing.
 use borrow.Author.Needs.{needs}
 use Prim.Native.Nat.{_-_}
 use Rattle.test_decoder_replay.proofs.session_f32.sines.Statement.{statement}
@@ -19,20 +20,8 @@ sine-at-requires c κs = tt
 cos-f32-requires : tie.Need-cos-f32-requires Inv-loop μ-loop
 cos-f32-requires c κs = tt
 
-mul-out : tie.Need-mul-out Inv-loop μ-loop
-mul-out c = search needs
-
-element-write-out : tie.Need-element-write-out Inv-loop μ-loop
-element-write-out c = search needs
-
 wrapping-add-u32-requires : tie.Need-wrapping-add-u32-requires Inv-loop μ-loop
 wrapping-add-u32-requires c κs = tt
-
-add-i : tie.Need-add-i Inv-loop μ-loop
-add-i c = search needs
-
-loop-less : tie.Need-loop-less Inv-loop μ-loop
-loop-less c = search needs
 
 loop-again : tie.Need-loop-again Inv-loop μ-loop
 loop-again c = tt
@@ -49,10 +38,10 @@ sines-spec =
     loop-holds
     sine-at-requires
     cos-f32-requires
-    mul-out
-    element-write-out
+    (λ c. search needs)
+    (λ c. search needs)
     wrapping-add-u32-requires
-    add-i
-    loop-less
+    (λ c. search needs)
+    (λ c. search needs)
     loop-again
     returns)

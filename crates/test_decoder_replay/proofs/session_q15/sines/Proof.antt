@@ -1,4 +1,5 @@
--- `test_decoder_replay::session_q15::sines` is safe and ends. The measure is how many samples are left. Assumes nothing.
+-- `test_decoder_replay::session_q15::sines` is safe and ends. The measure is how many samples are left.
+-- Assumes nothing.
 use borrow.Author.Needs.{needs}
 use Prim.Native.Nat.{_-_}
 use Rattle.test_decoder_replay.proofs.session_q15.sines.Statement.{statement}
@@ -22,20 +23,8 @@ cos-q15-requires c κs = tt
 q15-mul-requires : tie.Need-q15-mul-requires Inv-loop μ-loop
 q15-mul-requires c κs = tt
 
-mul-t12 : tie.Need-mul-t12 Inv-loop μ-loop
-mul-t12 c = search needs
-
-element-set-from-out : tie.Need-element-set-from-out Inv-loop μ-loop
-element-set-from-out c = search needs
-
 wrapping-add-u32-requires : tie.Need-wrapping-add-u32-requires Inv-loop μ-loop
 wrapping-add-u32-requires c κs = tt
-
-add-i : tie.Need-add-i Inv-loop μ-loop
-add-i c = search needs
-
-loop-less : tie.Need-loop-less Inv-loop μ-loop
-loop-less c = search needs
 
 loop-again : tie.Need-loop-again Inv-loop μ-loop
 loop-again c = tt
@@ -53,10 +42,10 @@ sines-spec =
     sine-at-requires
     cos-q15-requires
     q15-mul-requires
-    mul-t12
-    element-set-from-out
+    (λ c. search needs)
+    (λ c. search needs)
     wrapping-add-u32-requires
-    add-i
-    loop-less
+    (λ c. search needs)
+    (λ c. search needs)
     loop-again
     returns)

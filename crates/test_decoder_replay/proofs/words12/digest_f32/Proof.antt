@@ -1,4 +1,5 @@
--- `test_decoder_replay::words12::digest_f32` is safe and ends. The measure is how many samples are left. Assumes nothing.
+-- `test_decoder_replay::words12::digest_f32` is safe and ends. The measure is how many samples are left.
+-- Assumes nothing.
 use borrow.Author.Needs.{needs}
 use Prim.Native.Nat.{_-_}
 use Rattle.test_decoder_replay.proofs.words12.digest_f32.Statement.{statement}
@@ -13,23 +14,11 @@ abbrev μ-loop : tie.MeasureT-loop
 loop-holds : tie.Need-loop-holds Inv-loop μ-loop
 loop-holds c = tt
 
-mul-word-f32 : tie.Need-mul-word-f32 Inv-loop μ-loop
-mul-word-f32 c = search needs
-
-element-copy-out-word-f32 : tie.Need-element-copy-out-word-f32 Inv-loop μ-loop
-element-copy-out-word-f32 c = search needs
-
 word-f32-requires : tie.Need-word-f32-requires Inv-loop μ-loop
 word-f32-requires c κs = tt
 
 digest-requires : tie.Need-digest-requires Inv-loop μ-loop
 digest-requires c κs = tt
-
-add-i : tie.Need-add-i Inv-loop μ-loop
-add-i c = search needs
-
-loop-less : tie.Need-loop-less Inv-loop μ-loop
-loop-less c = search needs
 
 loop-again : tie.Need-loop-again Inv-loop μ-loop
 loop-again c = tt
@@ -44,11 +33,11 @@ digest-f32-spec =
     Inv-loop
     μ-loop
     loop-holds
-    mul-word-f32
-    element-copy-out-word-f32
+    (λ c. search needs)
+    (λ c. search needs)
     word-f32-requires
     digest-requires
-    add-i
-    loop-less
+    (λ c. search needs)
+    (λ c. search needs)
     loop-again
     returns)

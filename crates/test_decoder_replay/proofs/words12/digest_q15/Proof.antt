@@ -1,4 +1,5 @@
--- `test_decoder_replay::words12::digest_q15` is safe and ends. The measure is how many samples are left. Assumes nothing.
+-- `test_decoder_replay::words12::digest_q15` is safe and ends. The measure is how many samples are left.
+-- Assumes nothing.
 use borrow.Author.Needs.{needs}
 use Prim.Native.Nat.{_-_}
 use Rattle.test_decoder_replay.proofs.words12.digest_q15.Statement.{statement}
@@ -13,23 +14,11 @@ abbrev μ-loop : tie.MeasureT-loop
 loop-holds : tie.Need-loop-holds Inv-loop μ-loop
 loop-holds c = tt
 
-mul-word-i16 : tie.Need-mul-word-i16 Inv-loop μ-loop
-mul-word-i16 c = search needs
-
-element-copy-out-word-i16 : tie.Need-element-copy-out-word-i16 Inv-loop μ-loop
-element-copy-out-word-i16 c = search needs
-
 word-i16-requires : tie.Need-word-i16-requires Inv-loop μ-loop
 word-i16-requires c κs = tt
 
 digest-requires : tie.Need-digest-requires Inv-loop μ-loop
 digest-requires c κs = tt
-
-add-i : tie.Need-add-i Inv-loop μ-loop
-add-i c = search needs
-
-loop-less : tie.Need-loop-less Inv-loop μ-loop
-loop-less c = search needs
 
 loop-again : tie.Need-loop-again Inv-loop μ-loop
 loop-again c = tt
@@ -44,11 +33,11 @@ digest-q15-spec =
     Inv-loop
     μ-loop
     loop-holds
-    mul-word-i16
-    element-copy-out-word-i16
+    (λ c. search needs)
+    (λ c. search needs)
     word-i16-requires
     digest-requires
-    add-i
-    loop-less
+    (λ c. search needs)
+    (λ c. search needs)
     loop-again
     returns)

@@ -10,26 +10,11 @@ Inv-loop r h₀ k₀ h k = Unit {0}
 abbrev μ-loop : tie.MeasureT-loop
 μ-loop r h₀ k₀ h k = 7 - k
 
-element-copy-out-h : tie.Need-element-copy-out-h Inv-loop μ-loop
-element-copy-out-h c = search needs
-
 loop-holds : tie.Need-loop-holds Inv-loop μ-loop
 loop-holds c = tt
 
-mul-digest : tie.Need-mul-digest Inv-loop μ-loop
-mul-digest c = search needs
-
-element-copy-out-digest : tie.Need-element-copy-out-digest Inv-loop μ-loop
-element-copy-out-digest c = search needs
-
 digest-requires : tie.Need-digest-requires Inv-loop μ-loop
 digest-requires c κs = tt
-
-add-k : tie.Need-add-k Inv-loop μ-loop
-add-k c = search needs
-
-loop-less : tie.Need-loop-less Inv-loop μ-loop
-loop-less c = search needs
 
 loop-again : tie.Need-loop-again Inv-loop μ-loop
 loop-again c = tt
@@ -43,12 +28,12 @@ gains-spec =
     (tie.spec
     Inv-loop
     μ-loop
-    element-copy-out-h
+    (λ c. search needs)
     loop-holds
-    mul-digest
-    element-copy-out-digest
+    (λ c. search needs)
+    (λ c. search needs)
     digest-requires
-    add-k
-    loop-less
+    (λ c. search needs)
+    (λ c. search needs)
     loop-again
     returns)

@@ -15,21 +15,12 @@ first false b e = e
 sub-result : tie.Need-sub-result
 sub-result c = leb-true 48 (c .before .args .c) (first (leb 48 (c .before .args .c)) _ (c .if1 .taken))
 
-cast-result : tie.Need-cast-result
-cast-result c = search needs
-
 returns : tie.Need-returns
 unfolding digitOf
 returns c = rw (c .if1 .taken)
 
 sub-result-2 : tie.Need-sub-result-2
 sub-result-2 c = leb-true 97 (c .before .before .args .c) (first (leb 97 (c .before .before .args .c)) _ (c .if2 .taken))
-
-cast-result-2 : tie.Need-cast-result-2
-cast-result-2 c = search needs
-
-add-result : tie.Need-add-result
-add-result c = search needs
 
 returns-2 : tie.Need-returns-2
 unfolding digitOf
@@ -41,4 +32,4 @@ returns-3 c = rw (c .before .if1 .left, c .if2 .left)
 
 pub digit-spec : {M : Type 1} → statement M
 digit-spec =
-    tie.close (tie.spec sub-result cast-result returns sub-result-2 cast-result-2 add-result returns-2 returns-3)
+    tie.close (tie.spec sub-result (λ c. search needs) returns sub-result-2 (λ c. search needs) (λ c. search needs) returns-2 returns-3)

@@ -26,21 +26,6 @@ abbrev μ-loop : tie.MeasureT-loop
 loop-holds : tie.Need-loop-holds Inv-loop μ-loop
 loop-holds c = let n = length (c .before .before .args .names .now) / 16 in let e : n - 0 ≡ n = omega arith in (omega arith, rw e)
 
-mul-from : tie.Need-mul-from Inv-loop μ-loop
-mul-from c = omega arith
-
-add-to : tie.Need-add-to Inv-loop μ-loop
-add-to c = omega arith
-
-sub-starts : tie.Need-sub-starts Inv-loop μ-loop
-sub-starts c = omega arith
-
-part-starts-start : tie.Need-part-starts-start Inv-loop μ-loop
-part-starts-start c = omega arith
-
-part-starts-end : tie.Need-part-starts-end Inv-loop μ-loop
-part-starts-end c = omega arith
-
 starts-requires : tie.Need-starts-requires Inv-loop μ-loop
 starts-requires c κs = tt
 
@@ -49,12 +34,6 @@ returns c =
     let o = c .before .before .before .before in
     let a = o .before .before .before .args in
     sym (found (test (a .line .now) (a .names .now)) (o .loop .k) (length (a .names .now) / 16) (omega arith) (said _ _ (o .loop .k) (c .before .starts .ensures) (c .if1 .taken))) ∙ o .loop .inv .1
-
-add-k : tie.Need-add-k Inv-loop μ-loop
-add-k c = omega arith
-
-loop-less : tie.Need-loop-less Inv-loop μ-loop
-loop-less c = omega arith
 
 loop-again : tie.Need-loop-again Inv-loop μ-loop
 loop-again c =
@@ -75,14 +54,14 @@ find-spec =
     Inv-loop
     μ-loop
     loop-holds
-    mul-from
-    add-to
-    sub-starts
-    part-starts-start
-    part-starts-end
+    (λ c. omega arith)
+    (λ c. omega arith)
+    (λ c. omega arith)
+    (λ c. omega arith)
+    (λ c. omega arith)
     starts-requires
     returns
-    add-k
-    loop-less
+    (λ c. omega arith)
+    (λ c. omega arith)
     loop-again
     returns-2)

@@ -4,12 +4,6 @@ use borrow.Author.Tests.{lt-ltb, le-ltb}
 use Rattle.test_lines.proofs.tally.agreed.Statement.{statement}
 use Rattle.test_lines.proofs.tally.agreed.Tie as tie
 
-mul-result : tie.Need-mul-result
-mul-result c = search needs
-
-element-copy-out-result : tie.Need-element-copy-out-result
-element-copy-out-result c = search needs
-
 returns : tie.Need-returns
 returns c = rw (lt-ltb (c .before .before .args .k) 32 (c .before .if1 .taken))
 
@@ -17,4 +11,4 @@ returns-2 : tie.Need-returns-2
 returns-2 c = rw (le-ltb (c .before .args .k) 32 (c .if1 .left))
 
 pub agreed-spec : {M : Type 1} → statement M
-agreed-spec = tie.close (tie.spec mul-result element-copy-out-result returns returns-2)
+agreed-spec = tie.close (tie.spec (λ c. search needs) (λ c. search needs) returns returns-2)

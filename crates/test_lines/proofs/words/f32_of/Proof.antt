@@ -5,9 +5,6 @@ use Rattle.test_lines.proofs.Floats.{nan-bits, not-nan-bits}
 use Rattle.test_lines.proofs.words.f32_of.Statement.{statement}
 use Rattle.test_lines.proofs.words.f32_of.Tie as tie
 
-u32-of-requires : tie.Need-u32-of-requires
-u32-of-requires c κs = search needs
-
 returns : tie.Need-returns
 returns c = rw (← c .before .u32-of .ensures) (nan-bits binary32 (c .before .u32-of .result) (c .if1 .taken))
 
@@ -18,4 +15,4 @@ returns-2 : tie.Need-returns-2
 returns-2 c = rw (c .before .u32-of .ensures)
 
 pub f32-of-spec : {M : Type 1} → statement M
-f32-of-spec = tie.close (tie.spec u32-of-requires returns float-from-bits-result returns-2)
+f32-of-spec = tie.close (tie.spec (λ c κs. search needs) returns float-from-bits-result returns-2)

@@ -8,15 +8,6 @@ use Rattle.test_lines.proofs.Signed.{signed-is}
 use Rattle.test_lines.proofs.words.i16_of.Statement.{statement}
 use Rattle.test_lines.proofs.words.i16_of.Tie as tie
 
-cast-result : tie.Need-cast-result
-cast-result c = search needs
-
-sub-result : tie.Need-sub-result
-sub-result c = search needs
-
-cast-result-2 : tie.Need-cast-result-2
-cast-result-2 c = search needs
-
 returns : tie.Need-returns
 returns c = signed-is w16 (c .before .args .w) (c .before .args .w % 65536) refl
 
@@ -24,4 +15,4 @@ returns-2 : tie.Need-returns-2
 returns-2 c = signed-is w16 (c .before .args .w) (65535 - (65535 - c .before .args .w % 65536)) (omega arith)
 
 pub i16-of-spec : {M : Type 1} → statement M
-i16-of-spec = tie.close (tie.spec cast-result sub-result cast-result-2 returns returns-2)
+i16-of-spec = tie.close (tie.spec (λ c. search needs) (λ c. search needs) (λ c. search needs) returns returns-2)

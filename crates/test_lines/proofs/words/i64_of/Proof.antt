@@ -7,15 +7,6 @@ use Rattle.test_lines.proofs.Signed.{signed-is}
 use Rattle.test_lines.proofs.words.i64_of.Statement.{statement}
 use Rattle.test_lines.proofs.words.i64_of.Tie as tie
 
-cast-result : tie.Need-cast-result
-cast-result c = search needs
-
-sub-result : tie.Need-sub-result
-sub-result c = search needs
-
-cast-result-2 : tie.Need-cast-result-2
-cast-result-2 c = search needs
-
 returns : tie.Need-returns
 returns c = signed-is w64 (c .before .args .w) (c .before .args .w) (omega arith)
 
@@ -23,4 +14,4 @@ returns-2 : tie.Need-returns-2
 returns-2 c = signed-is w64 (c .before .args .w) (18446744073709551615 - (18446744073709551615 - c .before .args .w)) (omega arith)
 
 pub i64-of-spec : {M : Type 1} → statement M
-i64-of-spec = tie.close (tie.spec cast-result sub-result cast-result-2 returns returns-2)
+i64-of-spec = tie.close (tie.spec (λ c. search needs) (λ c. search needs) (λ c. search needs) returns returns-2)

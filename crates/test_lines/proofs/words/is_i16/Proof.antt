@@ -1,4 +1,5 @@
--- `test_lines::words::is_i16` meets its contract: a word of an i16 is below 2^15, or at most 2^15 below 2^64. Assumes nothing.
+-- `test_lines::words::is_i16` meets its contract: a word of an i16 is below 2^15, or at most 2^15 below 2^64.
+-- Assumes nothing.
 use Prim.Native.Nat.{ℕ, _%_, _^_, _<_, _≤_}
 use mathlib.Core.Path.{_≡_, refl, sym}
 use mathlib.Core.Bool.{Bool, true, false}

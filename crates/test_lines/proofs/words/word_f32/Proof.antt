@@ -12,11 +12,8 @@ returns c = nan-word binary32 (c .before .args .x) (c .if1 .taken)
 float-to-bits-word-u32 : tie.Need-float-to-bits-word-u32
 float-to-bits-word-u32 c = not-nan (c .before .args .x) (c .if1 .left)
 
-word-u32-requires : tie.Need-word-u32-requires
-word-u32-requires c κs = search needs
-
 returns-2 : tie.Need-returns-2
 returns-2 c = c .word-u32 .ensures
 
 pub word-f32-spec : {M : Type 1} → statement M
-word-f32-spec = tie.close (tie.spec returns float-to-bits-word-u32 word-u32-requires returns-2)
+word-f32-spec = tie.close (tie.spec returns float-to-bits-word-u32 (λ c κs. search needs) returns-2)

@@ -11,11 +11,8 @@ use Rattle.test_lines.proofs.words.word_i16.Tie as tie
 cast-word-i64 : tie.Need-cast-word-i64
 cast-word-i64 c = search (needs, sfits-widen)
 
-word-i64-requires : tie.Need-word-i64-requires
-word-i64-requires c κs = search needs
-
 returns : tie.Need-returns
 returns c = c .word-i64 .ensures ∙ ap wordOf (widened w64 tt (c .before .fits .x))
 
 pub word-i16-spec : {M : Type 1} → statement M
-word-i16-spec = tie.close (tie.spec cast-word-i64 word-i64-requires returns)
+word-i16-spec = tie.close (tie.spec cast-word-i64 (λ c κs. search needs) returns)

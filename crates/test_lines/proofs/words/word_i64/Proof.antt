@@ -1,4 +1,5 @@
--- `test_lines::words::word_i64` meets its contract: each arm casts a number that is not below 0, as its test found. Assumes nothing.
+-- `test_lines::words::word_i64` meets its contract: each arm casts a number that is not below 0, as its test
+-- found. Assumes nothing.
 use mathlib.Core.Path.{ap}
 use mathlib.Core.Bool.{not}
 use native.Mathlib.Omega.{arith}

@@ -5,12 +5,9 @@ use Rattle.decoder_record.proofs.Held.{held}
 use Rattle.decoder_record.proofs.pll_q15.StereoPllQ15.lock_level.Statement.{statement}
 use Rattle.decoder_record.proofs.pll_q15.StereoPllQ15.lock_level.Tie as tie
 
-i64-to-f64-requires : tie.Need-i64-to-f64-requires
-i64-to-f64-requires c κs = search needs
-
 returns : tie.Need-returns
 unfolding ofBits
 returns c = let s = c .before .before .args .self in rw (c .i64-to-f64 .ensures, toZ-ofZ (held s (c .before .struct-told .given) .level))
 
 pub lock-level-spec : {M : Type 1} → statement M
-lock-level-spec = tie.close (tie.spec i64-to-f64-requires returns)
+lock-level-spec = tie.close (tie.spec (λ c κs. search needs) returns)

@@ -1,21 +1,27 @@
 use borrow.Author.Needs.{needs}
+use mathlib.Core.Path.{_≡_, ap, _∙_}
+use lib.Ieee.{Float}
+use Rattle.answers.specs.Answer.{rule}
+use Rattle.answers.proofs.Causes.{mapChanged, map-changed}
+use Rattle.encoder_record.specs.Encode.{goodLevel, setPilotOf, setRdsPilotOf, saysSet}
+use Rattle.encoder_record.specs.declared.encode.StereoEncode.{StereoEncode}
+use Rattle.encoder_record.specs.declared.encode.SetEncode.{SetEncode}
+use Rattle.encoder_record.specs.declared.rds.StereoEncodeRds.{StereoEncodeRds}
 use Rattle.encoder_record.proofs.rds.StereoEncodeRds.set_pilot.Statement.{statement}
 use Rattle.encoder_record.proofs.rds.StereoEncodeRds.set_pilot.Tie as tie
 
-set-pilot-requires : tie.Need-set-pilot-requires
-set-pilot-requires c κs = search needs
+abbrev with : StereoEncodeRds → StereoEncode → StereoEncodeRds
+with e enc = record { enc = enc; rds = e .rds }
 
-enum-known-enc : tie.Need-enum-known-enc
-enum-known-enc c = search needs
-
-enum-known-n : tie.Need-enum-known-n
-enum-known-n c = search needs
+-- the set call from that on the stereo part
+from : (e : StereoEncodeRds) (x : Float) (r : SetEncode) → saysSet r ≡ setPilotOf (e .enc) x → mapChanged (with e) e (saysSet r) ≡ setRdsPilotOf e x
+from e x r h = ap (mapChanged (with e) e) h ∙ map-changed (with e) e (rule 14 (goodLevel x)) _ (e .enc)
 
 returns : tie.Need-returns
-returns c = rw (← c .before .before .before .set-pilot .ensures, c .before .enc .given .1)
+returns c = let k = c .before .before .before in rw (← from (k .before .before .args .self) (k .before .before .args .pilot) (k .set-pilot .result) (k .set-pilot .ensures), c .before .enc .given .1)
 
 returns-2 : tie.Need-returns-2
-returns-2 c = rw (← c .before .before .before .set-pilot .ensures, c .before .n .given .1)
+returns-2 c = let k = c .before .before .before in rw (← from (k .before .before .args .self) (k .before .before .args .pilot) (k .set-pilot .result) (k .set-pilot .ensures), c .before .n .given .1)
 
 pub set-pilot-spec : {M : Type 1} → statement M
-set-pilot-spec = tie.close (tie.spec set-pilot-requires enum-known-enc enum-known-n returns returns-2)
+set-pilot-spec = tie.close (tie.spec (λ c κs. search needs) (λ c. search needs) (λ c. search needs) returns returns-2)

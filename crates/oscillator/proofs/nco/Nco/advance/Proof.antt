@@ -25,20 +25,11 @@ module _ (p n inc : ℕ) where
       go : (a b c : ℕ) → a ≡ b * m + c → (p + c % m) % m ≡ (p + a) % m
       go a b c e = omega arith
 
-cast-added : tie.Need-cast-added
-cast-added c = search needs
-
 mul-added : tie.Need-mul-added
 mul-added c = record { fits = small (c .before .args .n) (c .before .args .self .inc) (c .struct-known .given .1 .0 .fits) }
-
-cast-added-2 : tie.Need-cast-added-2
-cast-added-2 c = search needs
-
-wrapping-add-u32-requires : tie.Need-wrapping-add-u32-requires
-wrapping-add-u32-requires c κs = search needs
 
 returns : tie.Need-returns
 returns c = let a = c .before .before .args in rw (c .wrapping-add-u32 .ensures, on (a .self .phase) (a .n) (a .self .inc))
 
 pub advance-spec : {M : Type 1} → statement M
-advance-spec = tie.close (tie.spec cast-added mul-added cast-added-2 wrapping-add-u32-requires returns)
+advance-spec = tie.close (tie.spec (λ c. search needs) mul-added (λ c. search needs) (λ c κs. search needs) returns)

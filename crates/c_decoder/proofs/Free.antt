@@ -1,0 +1,44 @@
+-- The calls of decoders and matrices ask nothing of their caller. `F.Asked` is what a caller of F has to show,
+-- by F's `requires`. Assumes nothing.
+use mathlib.Core.Path.{_≡_, refl}
+use Rattle.c_decoder.proofs.in_f32.pescrondilu_f32_new.Reads as f32-new
+use Rattle.c_decoder.proofs.in_f32.pescrondilu_f32_enable.Reads as f32-enable
+use Rattle.c_decoder.proofs.in_f32.pescrondilu_f32_disable.Reads as f32-disable
+use Rattle.c_decoder.proofs.in_f32.pescrondilu_f32_reset.Reads as f32-reset
+use Rattle.c_decoder.proofs.in_f32.pescrondilu_f32_block.Reads as f32-block
+use Rattle.c_decoder.proofs.in_f32.pescrondilu_f32_plain_block.Reads as f32-plain-block
+use Rattle.c_decoder.proofs.in_f32.pescrondilu_f32_read.Reads as f32-read
+use Rattle.c_decoder.proofs.in_q15.pescrondilu_q15_new.Reads as q15-new
+use Rattle.c_decoder.proofs.in_q15.pescrondilu_q15_enable.Reads as q15-enable
+use Rattle.c_decoder.proofs.in_q15.pescrondilu_q15_disable.Reads as q15-disable
+use Rattle.c_decoder.proofs.in_q15.pescrondilu_q15_reset.Reads as q15-reset
+use Rattle.c_decoder.proofs.in_q15.pescrondilu_q15_block.Reads as q15-block
+use Rattle.c_decoder.proofs.in_q15.pescrondilu_q15_plain_block.Reads as q15-plain-block
+use Rattle.c_decoder.proofs.in_q15.pescrondilu_q15_read.Reads as q15-read
+use Rattle.c_decoder.proofs.matrices.pescrondilu_matrix_f32.Reads as matrix-f32
+use Rattle.c_decoder.proofs.matrices.pescrondilu_matrix_q15.Reads as matrix-q15
+
+pub f32-free :
+    (f32-new.Asked ≡ λ κs a. Unit {0})
+    × (f32-enable.Asked ≡ λ κs a. Unit {0})
+    × (f32-disable.Asked ≡ λ κs a. Unit {0})
+    × (f32-reset.Asked ≡ λ κs a. Unit {0})
+    × (f32-block.Asked ≡ λ κs a. Unit {0})
+    × (f32-plain-block.Asked ≡ λ κs a. Unit {0})
+    × (f32-read.Asked ≡ λ κs a. Unit {0})
+f32-free = (refl, refl, refl, refl, refl, refl, refl)
+
+pub q15-free :
+    (q15-new.Asked ≡ λ κs a. Unit {0})
+    × (q15-enable.Asked ≡ λ κs a. Unit {0})
+    × (q15-disable.Asked ≡ λ κs a. Unit {0})
+    × (q15-reset.Asked ≡ λ κs a. Unit {0})
+    × (q15-block.Asked ≡ λ κs a. Unit {0})
+    × (q15-plain-block.Asked ≡ λ κs a. Unit {0})
+    × (q15-read.Asked ≡ λ κs a. Unit {0})
+q15-free = (refl, refl, refl, refl, refl, refl, refl)
+
+pub matrix-free :
+    (matrix-f32.Asked ≡ λ κs a. Unit {0})
+    × (matrix-q15.Asked ≡ λ κs a. Unit {0})
+matrix-free = (refl, refl)

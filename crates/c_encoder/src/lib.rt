@@ -1,0 +1,22 @@
+// The oscillator, both encoders and the verdict under C names, for a program in Rust or C to call.
+// Records go in and out by value, a slice is a pointer and then a length, and answers are numbers,
+// as specs/Coded.antt defines them.
+ghost use mathlib.Core.Path.{_≡_};
+ghost use mathlib.Core.Bool.{cond};
+ghost use Rattle.verdict.specs.Verdict.{onAirOf};
+
+mod encode;
+mod nco;
+mod rds;
+
+// 1 where the pilot may go on air, else 0.
+#[no_mangle]
+pub extern "C" fn pescrondilu_on_air(frequency: f64, amplitude: f32) -> u32
+    ensures { λ r. ⌜ r ≡ cond (onAirOf frequency amplitude) 1 0 ⌝ }
+{
+    if verdict::on_air(frequency, amplitude) {
+        1
+    } else {
+        0
+    }
+}

@@ -1,0 +1,128 @@
+-- Demand 3 of this program: the functions of both formats, and the whole claim. specs/Demand.antt and
+-- specs/Callable.antt say what it means; here stand only the functions' generated names. Assumes nothing.
+-- `F.Reads.Learnt` is what a caller of F learns from F's contract, of the lifetimes, the arguments, the result
+-- and the parameters at exit; `F.Kinds` and `F.Symbol` are F's signature and code.
+use mathlib.Core.Bool.{true}
+use mathlib.Core.List.{List}
+use mathlib.Core.Path.{_≡_}
+use lib.Dec.{T}
+use lib.IntN.{ℤ, negℤ}
+use lib.Ieee.{Float, neg, le}
+use Rattle.answers.specs.Answer.{says, Built, made, refused}
+use Rattle.decoder_record.specs.State.{Pll}
+use Rattle.decoder_record.specs.Fit.{withinZ, fitQ15}
+use Rattle.decoder_record.specs.Fresh.{newF32Of, newQ15Of}
+use Rattle.decoder_record.specs.Records.{pllF32, pllQ15}
+use Rattle.decoder_record.specs.declared.pll_f32.StereoPllF32.{StereoPllF32}
+use Rattle.decoder_record.specs.declared.pll_f32.NewF32.{NewF32}
+use Rattle.decoder_record.specs.declared.pll_f32.NewF32.the-variants as f32-new
+use Rattle.decoder_record.specs.declared.pll_q15.StereoPllQ15.{StereoPllQ15}
+use Rattle.decoder_record.specs.declared.pll_q15.NewQ15.{NewQ15}
+use Rattle.decoder_record.specs.declared.pll_q15.NewQ15.the-variants as q15-new
+use Rattle.decoder.specs.F32.{f32}
+use Rattle.decoder_q15.specs.Q15.{q15}
+use Rattle.decoder.specs.declared.parts.ReplyF32.{ReplyF32}
+use Rattle.decoder_q15.specs.declared.parts.ReplyQ15.{ReplyQ15}
+use Rattle.calls.specs.Events.{UnitTables, Pilots16}
+use Rattle.calls.specs.Callable.{Callable}
+use Rattle.calls.specs.Demand.{Format, Demand}
+use Rattle.decoder_record.proofs.pll_f32.StereoPllF32.new.Reads as f32-make
+use Rattle.decoder_record.proofs.pll_f32.StereoPllF32.new.Kinds as f32-make-kinds
+use Rattle.decoder_record.proofs.pll_f32.StereoPllF32.new.Symbol as f32-make-symbol
+use Rattle.decoder.proofs.plain.block.Reads as f32-plain
+use Rattle.decoder.proofs.plain.block.Kinds as f32-plain-kinds
+use Rattle.decoder.proofs.plain.block.Symbol as f32-plain-symbol
+use Rattle.decoder.proofs.fast.block.Reads as f32-fast
+use Rattle.decoder.proofs.fast.block.Kinds as f32-fast-kinds
+use Rattle.decoder.proofs.fast.block.Symbol as f32-fast-symbol
+use Rattle.decoder_record.proofs.pll_f32.StereoPllF32.enable.Reads as f32-enable
+use Rattle.decoder_record.proofs.pll_f32.StereoPllF32.enable.Kinds as f32-enable-kinds
+use Rattle.decoder_record.proofs.pll_f32.StereoPllF32.enable.Symbol as f32-enable-symbol
+use Rattle.decoder_record.proofs.pll_f32.StereoPllF32.disable.Reads as f32-disable
+use Rattle.decoder_record.proofs.pll_f32.StereoPllF32.disable.Kinds as f32-disable-kinds
+use Rattle.decoder_record.proofs.pll_f32.StereoPllF32.disable.Symbol as f32-disable-symbol
+use Rattle.decoder_record.proofs.pll_f32.StereoPllF32.reset.Reads as f32-reset
+use Rattle.decoder_record.proofs.pll_f32.StereoPllF32.reset.Kinds as f32-reset-kinds
+use Rattle.decoder_record.proofs.pll_f32.StereoPllF32.reset.Symbol as f32-reset-symbol
+use Rattle.decoder_record.proofs.pll_q15.StereoPllQ15.new.Reads as q15-make
+use Rattle.decoder_record.proofs.pll_q15.StereoPllQ15.new.Kinds as q15-make-kinds
+use Rattle.decoder_record.proofs.pll_q15.StereoPllQ15.new.Symbol as q15-make-symbol
+use Rattle.decoder_q15.proofs.plain.block.Reads as q15-plain
+use Rattle.decoder_q15.proofs.plain.block.Kinds as q15-plain-kinds
+use Rattle.decoder_q15.proofs.plain.block.Symbol as q15-plain-symbol
+use Rattle.decoder_q15.proofs.fast.block.Reads as q15-fast
+use Rattle.decoder_q15.proofs.fast.block.Kinds as q15-fast-kinds
+use Rattle.decoder_q15.proofs.fast.block.Symbol as q15-fast-symbol
+use Rattle.decoder_record.proofs.pll_q15.StereoPllQ15.enable.Reads as q15-enable
+use Rattle.decoder_record.proofs.pll_q15.StereoPllQ15.enable.Kinds as q15-enable-kinds
+use Rattle.decoder_record.proofs.pll_q15.StereoPllQ15.enable.Symbol as q15-enable-symbol
+use Rattle.decoder_record.proofs.pll_q15.StereoPllQ15.disable.Reads as q15-disable
+use Rattle.decoder_record.proofs.pll_q15.StereoPllQ15.disable.Kinds as q15-disable-kinds
+use Rattle.decoder_record.proofs.pll_q15.StereoPllQ15.disable.Symbol as q15-disable-symbol
+use Rattle.decoder_record.proofs.pll_q15.StereoPllQ15.reset.Reads as q15-reset
+use Rattle.decoder_record.proofs.pll_q15.StereoPllQ15.reset.Kinds as q15-reset-kinds
+use Rattle.decoder_record.proofs.pll_q15.StereoPllQ15.reset.Symbol as q15-reset-symbol
+
+abbrev pub builtF32 : NewF32 → Built StereoPllF32
+builtF32 (f32-new.Made d) = made d
+builtF32 (f32-new.Refused n) = refused n
+
+abbrev pub builtQ15 : NewQ15 → Built StereoPllQ15
+builtQ15 (q15-new.Made d) = made d
+builtQ15 (q15-new.Refused n) = refused n
+
+-- f32: the integrator is in -imax..=imax if every table entry of the accepted blocks lies in -1 to 1
+abbrev pub F32 : Format Float StereoPllF32 ReplyF32 NewF32
+F32 = record {
+  arithmetic = f32;
+  newOf = λ a. newF32Of (a .pilot) (a .natural) (a .level) (a .beta) (a .rate);
+  state = pllF32;
+  said = λ r. says (r .answer);
+  decoder = λ r. r .decoder;
+  built = builtF32;
+  make = λ a r. f32-make.Learnt tt (a .pilot, (a .natural, (a .level, (a .beta, (a .rate, tt))))) r (a .pilot, (a .natural, (a .level, (a .beta, (a .rate, tt)))));
+  plain = λ κs d t x p y z r y' z'. f32-plain.Learnt κs (d, (t, (x, (p, (y, (z, tt)))))) r (d, (t, (x, (p, (y', (z', tt))))));
+  fast = λ κs d t x p y z r y' z'. f32-fast.Learnt κs (d, (t, (x, (p, (y, (z, tt)))))) r (d, (t, (x, (p, (y', (z', tt))))));
+  enable = λ d e. f32-enable.Learnt tt (d, tt) e (d, tt);
+  disable = λ d e. f32-disable.Learnt tt (d, tt) e (d, tt);
+  reset = λ d e. f32-reset.Learnt tt (d, tt) e (d, tt);
+  Premise = UnitTables;
+  Within = λ d. T (le (neg (d .gains .imax)) (d .moving .integ)) × T (le (d .moving .integ) (d .gains .imax));
+}
+
+-- Q15: the integrator is in -imax..=imax, and the record is fit, so that cause 0 is never met
+abbrev pub Q15 : Format ℤ StereoPllQ15 ReplyQ15 NewQ15
+Q15 = record {
+  arithmetic = q15;
+  newOf = λ a. newQ15Of (a .pilot) (a .natural) (a .level) (a .beta) (a .rate);
+  state = pllQ15;
+  said = λ r. says (r .answer);
+  decoder = λ r. r .decoder;
+  built = builtQ15;
+  make = λ a r. q15-make.Learnt tt (a .pilot, (a .natural, (a .level, (a .beta, (a .rate, tt))))) r (a .pilot, (a .natural, (a .level, (a .beta, (a .rate, tt)))));
+  plain = λ κs d t x p y z r y' z'. q15-plain.Learnt κs (d, (t, (x, (p, (y, (z, tt)))))) r (d, (t, (x, (p, (y', (z', tt))))));
+  fast = λ κs d t x p y z r y' z'. q15-fast.Learnt κs (d, (t, (x, (p, (y, (z, tt)))))) r (d, (t, (x, (p, (y', (z', tt))))));
+  enable = λ d e. q15-enable.Learnt tt (d, tt) e (d, tt);
+  disable = λ d e. q15-disable.Learnt tt (d, tt) e (d, tt);
+  reset = λ d e. q15-reset.Learnt tt (d, tt) e (d, tt);
+  Premise = Pilots16;
+  Within = λ d. (withinZ (negℤ (d .gains .imax)) (d .gains .imax) (d .moving .integ) ≡ true) × (fitQ15 d ≡ true);
+}
+
+-- the whole of it: each function may be called with any arguments, and what its caller then learns agrees with
+-- the machine over every list
+pub record Demand3 : Type 2 where
+  pub f32-make-callable : Callable 0 f32-make-kinds.ps f32-make-kinds.r f32-make-symbol.routine f32-make.Learnt
+  pub f32-plain-callable : Callable 5 f32-plain-kinds.ps f32-plain-kinds.r f32-plain-symbol.routine f32-plain.Learnt
+  pub f32-fast-callable : Callable 5 f32-fast-kinds.ps f32-fast-kinds.r f32-fast-symbol.routine f32-fast.Learnt
+  pub f32-enable-callable : Callable 0 f32-enable-kinds.ps f32-enable-kinds.r f32-enable-symbol.routine f32-enable.Learnt
+  pub f32-disable-callable : Callable 0 f32-disable-kinds.ps f32-disable-kinds.r f32-disable-symbol.routine f32-disable.Learnt
+  pub f32-reset-callable : Callable 0 f32-reset-kinds.ps f32-reset-kinds.r f32-reset-symbol.routine f32-reset.Learnt
+  pub q15-make-callable : Callable 0 q15-make-kinds.ps q15-make-kinds.r q15-make-symbol.routine q15-make.Learnt
+  pub q15-plain-callable : Callable 5 q15-plain-kinds.ps q15-plain-kinds.r q15-plain-symbol.routine q15-plain.Learnt
+  pub q15-fast-callable : Callable 5 q15-fast-kinds.ps q15-fast-kinds.r q15-fast-symbol.routine q15-fast.Learnt
+  pub q15-enable-callable : Callable 0 q15-enable-kinds.ps q15-enable-kinds.r q15-enable-symbol.routine q15-enable.Learnt
+  pub q15-disable-callable : Callable 0 q15-disable-kinds.ps q15-disable-kinds.r q15-disable-symbol.routine q15-disable.Learnt
+  pub q15-reset-callable : Callable 0 q15-reset-kinds.ps q15-reset-kinds.r q15-reset-symbol.routine q15-reset.Learnt
+  pub in-f32 : Demand F32
+  pub in-q15 : Demand Q15

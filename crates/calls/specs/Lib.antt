@@ -1,0 +1,4 @@
+pub mod Events
+pub mod Calls
+pub mod Callable
+pub mod Demand

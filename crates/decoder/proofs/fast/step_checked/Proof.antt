@@ -1,0 +1,45 @@
+use borrow.Author.Needs.{needs}
+use mathlib.Core.Path.{refl, _∙_}
+use Rattle.decoder_record.specs.Records.{pllF32}
+use Rattle.decoder.specs.F32.{f32}
+use Rattle.decoder.proofs.Steps.{Parts, advanced-is, step-is}
+use Rattle.decoder.proofs.fast.step_checked.Statement.{statement}
+use Rattle.decoder.proofs.fast.step_checked.Tie as tie
+
+returns : tie.Need-returns
+returns c =
+    let k = c .before in
+    let w = k .before .before in
+    let g = w .before in
+    let m = g .before in
+    let b = m .before .before in
+    let l = b .before in
+    let e = l .before in
+    let c2 = e .before in
+    let i = c2 .before .before in
+    let a = i .before .before .args in
+    let parts : Parts f32 (a .table .now) (pllF32 (a .d)) (a .x) (a .p) (e .error-of .result) (l .level-of .result) (m .demodulated .result) (b .stereo-of .result) (pllF32 (c .advanced .result)) = record {
+      error = e .error-of .ensures ∙ rw (i .interp-f32-pair .ensures);
+      lock = l .level-of .ensures ∙ rw (i .interp-f32-pair .ensures);
+      decision = b .stereo-of .ensures;
+      heard = m .demodulated .ensures ∙ rw (c2 .cos-f32 .ensures, c2 .before .sine-at-twice .ensures);
+      advanced = c .advanced .ensures ∙ advanced-is f32 (pllF32 (a .d)) (e .error-of .result) (l .level-of .result) (b .stereo-of .result) (w .within .ensures ∙ rw (g .accumulated .ensures)) (k .correction-fast .ensures) refl;
+    } in
+    step-is f32 (a .table .now) (pllF32 (a .d)) (a .x) (a .p) parts
+
+pub step-checked-spec : {M : Type 1} → statement M
+step-checked-spec =
+    tie.close
+    (tie.spec
+    (λ c κs. search needs)
+    (λ c κs. search needs)
+    (λ c κs. search needs)
+    (λ c κs. search needs)
+    (λ c κs. search needs)
+    (λ c κs. search needs)
+    (λ c κs. search needs)
+    (λ c κs. search needs)
+    (λ c κs. search needs)
+    (λ c κs. search needs)
+    (λ c κs. search needs)
+    returns)

@@ -1,0 +1,3 @@
+pub mod Plus
+pub mod Sound
+pub mod Free

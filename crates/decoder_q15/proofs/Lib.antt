@@ -1,0 +1,4 @@
+pub mod Samples
+pub mod Level
+pub mod Kept
+pub mod Free

@@ -1,0 +1,127 @@
+//! Our decoder, plain or fast, behind the calls of `decoder_oracle::answers`.
+
+use decoder_oracle::answers::{Arguments, Block, Call, Format, Outcome, words};
+use numbers_oracle::answers::word_f64;
+use ours::decoder::{self, Decoder, Sample, Way};
+use sdrk_core::probe::Fields;
+use sdrk_core::types::Q15;
+use stereo_oracle::answers::{ACCEPTED, Said};
+
+/// A format that our library has.
+pub trait Ours: Format<Sample: Sample<Value = Self::Value>> {}
+
+impl Ours for f32 {}
+impl Ours for Q15 {}
+
+#[derive(Clone, Copy)]
+pub struct Record<F: Ours>(Decoder<F::Value>);
+
+impl<F: Ours> Record<F> {
+    /// `on` stands for a switch that is on.
+    pub fn from(f: Fields<F::Value>, on: u32) -> Self {
+        Record(Decoder {
+            kp: f.kp,
+            ki: f.ki,
+            imax: f.imax,
+            beta: f.beta,
+            on: f.on,
+            off: f.off,
+            integ: f.integ,
+            level: f.level,
+            step0: f.step0,
+            phase: f.phase,
+            stereo: if f.stereo { on } else { 0 },
+            enabled: if f.enabled { on } else { 0 },
+        })
+    }
+
+    /// The code, and the record that comes with it.
+    pub fn construct(a: Arguments) -> (u32, Self) {
+        let made = F::Sample::NEW(a.pilot, a.natural, a.level, a.beta, a.rate);
+        (made.code, Record(made.decoder))
+    }
+
+    pub fn fields(&self) -> Fields<F::Value> {
+        let d = self.0;
+        Fields {
+            kp: d.kp,
+            ki: d.ki,
+            imax: d.imax,
+            beta: d.beta,
+            on: d.on,
+            off: d.off,
+            step0: d.step0,
+            phase: d.phase,
+            integ: d.integ,
+            level: d.level,
+            stereo: d.stereo != 0,
+            enabled: d.enabled != 0,
+        }
+    }
+
+    /// As `field_words`, but for the switches, which are the numbers that we gave back.
+    pub fn words(&self) -> [u64; 12] {
+        let (d, w) = (self.0, F::word_value);
+        [
+            w(d.kp),
+            w(d.ki),
+            w(d.imax),
+            w(d.beta),
+            w(d.on),
+            w(d.off),
+            d.step0 as u64,
+            d.phase as u64,
+            w(d.integ),
+            w(d.level),
+            d.stereo as u64,
+            d.enabled as u64,
+        ]
+    }
+
+    /// integrator, its limit, lock level, stereo, phase, enabled
+    pub fn reads(&self) -> [u64; 6] {
+        let r = F::Sample::READ(self.0);
+        [
+            word_f64(r.integrator),
+            word_f64(r.integrator_limit),
+            word_f64(r.lock_level),
+            r.stereo as u64,
+            r.phase as u64,
+            r.enabled as u64,
+        ]
+    }
+
+    /// A block, with its outputs as they are left.
+    fn run(&mut self, way: Way, b: &Block<F::Sample>) -> (Said, Vec<u64>, Vec<u64>) {
+        let (mut sum, mut difference) = (b.sum.clone(), b.difference.clone());
+        let reply = decoder::block(
+            way,
+            self.0,
+            &b.table,
+            &b.mpx,
+            &b.pilot,
+            &mut sum,
+            &mut difference,
+        );
+        self.0 = reply.decoder;
+        let said = reply.answer.numbers();
+        (said, words::<F>(&sum), words::<F>(&difference))
+    }
+
+    pub fn call(&mut self, way: Way, call: &Call<F::Sample>) -> Outcome {
+        let (mut said, mut sum, mut difference) = (ACCEPTED, Vec::new(), Vec::new());
+        match call {
+            Call::Enable => self.0 = F::Sample::ENABLE(self.0),
+            Call::Disable => self.0 = F::Sample::DISABLE(self.0),
+            Call::Reset => self.0 = F::Sample::RESET(self.0),
+            Call::Block(b) => (said, sum, difference) = self.run(way, b),
+        }
+        Outcome {
+            said,
+            sum,
+            difference,
+            fields: self.words(),
+            reads: self.reads(),
+        }
+    }
+}

@@ -1,0 +1,252 @@
+//! crates/c_decoder. A struct that both formats have is one here, over the format's number V; S is
+//! the format's sample.
+
+use crate::Code;
+
+/// A decoder's record. A switch is off at 0 and on at anything else.
+#[repr(C)]
+#[derive(Clone, Copy, Debug, PartialEq)]
+pub struct Decoder<V> {
+    pub kp: V,
+    pub ki: V,
+    pub imax: V,
+    pub beta: V,
+    pub on: V,
+    pub off: V,
+    pub integ: V,
+    pub level: V,
+    pub step0: u32,
+    pub phase: u32,
+    pub stereo: u32,
+    pub enabled: u32,
+}
+
+layout!(
+    Decoder<f32>, 48,
+    kp 0, ki 4, imax 8, beta 12, on 16, off 20, integ 24, level 28,
+    step0 32, phase 36, stereo 40, enabled 44
+);
+layout!(
+    Decoder<i64>, 80,
+    kp 0, ki 8, imax 16, beta 24, on 32, off 40, integ 48, level 56,
+    step0 64, phase 68, stereo 72, enabled 76
+);
+
+#[repr(C)]
+#[derive(Clone, Copy, Debug, PartialEq)]
+pub struct Coded<V> {
+    pub code: u32,
+    pub decoder: Decoder<V>,
+}
+
+layout!(Coded<f32>, 52, code 0, decoder 4);
+layout!(Coded<i64>, 88, code 0, decoder 8);
+
+#[repr(C)]
+#[derive(Clone, Copy, Debug, PartialEq)]
+pub struct Reply<V> {
+    pub answer: Code,
+    pub decoder: Decoder<V>,
+}
+
+layout!(Reply<f32>, 72, answer 0, decoder 24);
+layout!(Reply<i64>, 104, answer 0, decoder 24);
+
+#[repr(C)]
+#[derive(Clone, Copy, Debug, PartialEq)]
+pub struct Readout {
+    pub integrator: f64,
+    pub integrator_limit: f64,
+    pub lock_level: f64,
+    pub phase: u32,
+    pub stereo: u32,
+    pub enabled: u32,
+}
+
+layout!(
+    Readout, 40,
+    integrator 0, integrator_limit 8, lock_level 16, phase 24, stereo 28, enabled 32
+);
+
+type New<V> = extern "C" fn(f64, f64, f64, f64, f64) -> Coded<V>;
+type Set<V> = extern "C" fn(Decoder<V>) -> Decoder<V>;
+type Read<V> = extern "C" fn(Decoder<V>) -> Readout;
+type Block<V, S> = unsafe extern "C" fn(
+    Decoder<V>,
+    *const S,
+    usize,
+    *const S,
+    usize,
+    *const S,
+    usize,
+    *mut S,
+    usize,
+    *mut S,
+    usize,
+) -> Reply<V>;
+type Matrix<S> =
+    unsafe extern "C" fn(*const S, usize, *const S, usize, *mut S, usize, *mut S, usize) -> Code;
+
+/// Which of our two blocks.
+#[derive(Clone, Copy, Debug, PartialEq, Eq)]
+pub enum Way {
+    Plain,
+    Fast,
+}
+
+/// A format by its sample: its number and its functions.
+pub trait Sample: Copy {
+    type Value: Copy;
+    const NEW: New<Self::Value>;
+    const ENABLE: Set<Self::Value>;
+    const DISABLE: Set<Self::Value>;
+    const RESET: Set<Self::Value>;
+    const READ: Read<Self::Value>;
+    const BLOCK: Block<Self::Value, Self>;
+    const PLAIN_BLOCK: Block<Self::Value, Self>;
+    const MATRIX: Matrix<Self>;
+}
+
+macro_rules! format {
+    (
+        $value:ty, $sample:ty, $new:ident, $enable:ident, $disable:ident, $reset:ident,
+        $read:ident, $block:ident, $plain_block:ident, $matrix:ident
+    ) => {
+        unsafe extern "C" {
+            safe fn $new(
+                pilot: f64,
+                natural: f64,
+                level: f64,
+                beta: f64,
+                rate: f64,
+            ) -> Coded<$value>;
+            safe fn $enable(d: Decoder<$value>) -> Decoder<$value>;
+            safe fn $disable(d: Decoder<$value>) -> Decoder<$value>;
+            safe fn $reset(d: Decoder<$value>) -> Decoder<$value>;
+            safe fn $read(d: Decoder<$value>) -> Readout;
+            fn $block(
+                d: Decoder<$value>,
+                table: *const $sample,
+                table_n: usize,
+                mpx: *const $sample,
+                mpx_n: usize,
+                pilot: *const $sample,
+                pilot_n: usize,
+                sum: *mut $sample,
+                sum_n: usize,
+                difference: *mut $sample,
+                difference_n: usize,
+            ) -> Reply<$value>;
+            fn $plain_block(
+                d: Decoder<$value>,
+                table: *const $sample,
+                table_n: usize,
+                mpx: *const $sample,
+                mpx_n: usize,
+                pilot: *const $sample,
+                pilot_n: usize,
+                sum: *mut $sample,
+                sum_n: usize,
+                difference: *mut $sample,
+                difference_n: usize,
+            ) -> Reply<$value>;
+            fn $matrix(
+                sum: *const $sample,
+                sum_n: usize,
+                difference: *const $sample,
+                difference_n: usize,
+                left: *mut $sample,
+                left_n: usize,
+                right: *mut $sample,
+                right_n: usize,
+            ) -> Code;
+        }
+
+        impl Sample for $sample {
+            type Value = $value;
+            const NEW: New<$value> = $new;
+            const ENABLE: Set<$value> = $enable;
+            const DISABLE: Set<$value> = $disable;
+            const RESET: Set<$value> = $reset;
+            const READ: Read<$value> = $read;
+            const BLOCK: Block<$value, $sample> = $block;
+            const PLAIN_BLOCK: Block<$value, $sample> = $plain_block;
+            const MATRIX: Matrix<$sample> = $matrix;
+        }
+    };
+}
+
+format!(
+    f32,
+    f32,
+    pescrondilu_f32_new,
+    pescrondilu_f32_enable,
+    pescrondilu_f32_disable,
+    pescrondilu_f32_reset,
+    pescrondilu_f32_read,
+    pescrondilu_f32_block,
+    pescrondilu_f32_plain_block,
+    pescrondilu_matrix_f32
+);
+format!(
+    i64,
+    i16,
+    pescrondilu_q15_new,
+    pescrondilu_q15_enable,
+    pescrondilu_q15_disable,
+    pescrondilu_q15_reset,
+    pescrondilu_q15_read,
+    pescrondilu_q15_block,
+    pescrondilu_q15_plain_block,
+    pescrondilu_matrix_q15
+);
+
+// SAFETY, for both calls below: a pointer and a length are those of one slice, and no output
+// overlaps another argument.
+
+#[inline]
+pub fn block<S: Sample>(
+    way: Way,
+    d: Decoder<S::Value>,
+    table: &[S],
+    mpx: &[S],
+    pilot: &[S],
+    sum: &mut [S],
+    difference: &mut [S],
+) -> Reply<S::Value> {
+    let call = match way {
+        Way::Plain => S::PLAIN_BLOCK,
+        Way::Fast => S::BLOCK,
+    };
+    unsafe {
+        call(
+            d,
+            table.as_ptr(),
+            table.len(),
+            mpx.as_ptr(),
+            mpx.len(),
+            pilot.as_ptr(),
+            pilot.len(),
+            sum.as_mut_ptr(),
+            sum.len(),
+            difference.as_mut_ptr(),
+            difference.len(),
+        )
+    }
+}
+
+#[inline]
+pub fn matrix<S: Sample>(sum: &[S], difference: &[S], left: &mut [S], right: &mut [S]) -> Code {
+    unsafe {
+        S::MATRIX(
+            sum.as_ptr(),
+            sum.len(),
+            difference.as_ptr(),
+            difference.len(),
+            left.as_mut_ptr(),
+            left.len(),
+            right.as_mut_ptr(),
+            right.len(),
+        )
+    }
+}
