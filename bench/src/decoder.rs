@@ -3,7 +3,7 @@
 
 use std::hint::black_box;
 
-use ours::decoder::{self, Decoder, Sample, Way};
+use pescrondilu_sys::decoder::{self, Decoder, Sample, Way};
 use sdrk_core::error::Error;
 use sdrk_core::kernels::stereo::{StereoPll, StereoPllState, hand};
 use sdrk_core::probe::{self, Fields};

@@ -7,9 +7,9 @@ mod decoder;
 use std::hint::black_box;
 use std::time::Instant;
 
-use ours::Code;
-use ours::decoder::matrix;
-use ours::encoder::{Nco, StereoEncode, StereoEncodeRds, encode_block, encode_rds_block};
+use pescrondilu_sys::Code;
+use pescrondilu_sys::decoder::matrix;
+use pescrondilu_sys::encoder::{Nco, StereoEncode, StereoEncodeRds, encode_block, encode_rds_block};
 use sdrk_core::Fallback;
 use sdrk_core::kernels::stereo::{StereoEncode as _, StereoEncodeRds as _, StereoMatrix};
 use sdrk_core::probe;

@@ -2,7 +2,7 @@
 
 use decoder_oracle::answers::{self, Arguments, Block, Call, Format, Outcome, field_words};
 use decoder_oracle::inputs::{self, Drawn};
-use ours::decoder::Way;
+use pescrondilu_sys::decoder::Way;
 use sdrk_core::kernels::stereo::StereoPllState;
 use sdrk_core::probe::Fields;
 use sdrk_core::types::Q15;

@@ -2,7 +2,7 @@
 //! and after each call the code or answer, the output and every field.
 
 use numbers_oracle::answers::word_f32;
-use ours::encoder::*;
+use pescrondilu_sys::encoder::*;
 use stereo_oracle::answers::{Arguments, Block, Encoder, Fields, Said, Side};
 
 use crate::part::Part;

@@ -1,7 +1,7 @@
 //! The answers of crates/c_numbers, over words as in `numbers_oracle::answers`.
 
 use numbers_oracle::answers::{REFUSAL, f32_of, f64_of, word_f32, word_f64, word_i16};
-use ours::numbers::*;
+use pescrondilu_sys::numbers::*;
 
 /// A refusal's value has to be 0: any other shows in the word.
 fn q14_word(q: CodedQ14) -> u64 {

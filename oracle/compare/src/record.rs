@@ -2,7 +2,7 @@
 
 use decoder_oracle::answers::{Arguments, Block, Call, Format, Outcome, words};
 use numbers_oracle::answers::word_f64;
-use ours::decoder::{self, Decoder, Sample, Way};
+use pescrondilu_sys::decoder::{self, Decoder, Sample, Way};
 use sdrk_core::probe::Fields;
 use sdrk_core::types::Q15;
 use stereo_oracle::answers::{ACCEPTED, Said};

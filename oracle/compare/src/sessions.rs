@@ -1,7 +1,7 @@
 //! Sessions of whole records: an oscillator or an encoder over a list of calls, every field of our
 //! record after each of them beside what the original's accessors say.
 
-use ours::encoder::{
+use pescrondilu_sys::encoder::{
     Nco, pescrondilu_nco_advance, pescrondilu_nco_from_increment, pescrondilu_nco_new,
     pescrondilu_nco_reset, pescrondilu_nco_set_frequency, pescrondilu_nco_set_phase,
 };

@@ -1,11 +1,11 @@
 //! Lookup, correction, oscillator, matrix, encoders and verdict, compared with the original.
 
 use numbers_oracle::answers::{word_f32, word_i16};
-use ours::decoder::matrix;
-use ours::encoder::{
+use pescrondilu_sys::decoder::matrix;
+use pescrondilu_sys::encoder::{
     Nco, pescrondilu_nco_advance, pescrondilu_nco_increment_for, pescrondilu_on_air,
 };
-use ours::numbers::{self, pescrondilu_correction_fast, pescrondilu_correction_plain};
+use pescrondilu_sys::numbers::{self, pescrondilu_correction_fast, pescrondilu_correction_plain};
 use stereo_oracle::answers::{self, Arguments, Block, Encoder, SIDES, TABLE};
 use stereo_oracle::inputs::{Inputs, Limits, corrections, limits};
 

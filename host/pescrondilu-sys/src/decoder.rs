@@ -113,18 +113,18 @@ macro_rules! format {
         $read:ident, $block:ident, $plain_block:ident, $matrix:ident
     ) => {
         unsafe extern "C" {
-            safe fn $new(
+            pub safe fn $new(
                 pilot: f64,
                 natural: f64,
                 level: f64,
                 beta: f64,
                 rate: f64,
             ) -> Coded<$value>;
-            safe fn $enable(d: Decoder<$value>) -> Decoder<$value>;
-            safe fn $disable(d: Decoder<$value>) -> Decoder<$value>;
-            safe fn $reset(d: Decoder<$value>) -> Decoder<$value>;
-            safe fn $read(d: Decoder<$value>) -> Readout;
-            fn $block(
+            pub safe fn $enable(d: Decoder<$value>) -> Decoder<$value>;
+            pub safe fn $disable(d: Decoder<$value>) -> Decoder<$value>;
+            pub safe fn $reset(d: Decoder<$value>) -> Decoder<$value>;
+            pub safe fn $read(d: Decoder<$value>) -> Readout;
+            pub fn $block(
                 d: Decoder<$value>,
                 table: *const $sample,
                 table_n: usize,
@@ -137,7 +137,7 @@ macro_rules! format {
                 difference: *mut $sample,
                 difference_n: usize,
             ) -> Reply<$value>;
-            fn $plain_block(
+            pub fn $plain_block(
                 d: Decoder<$value>,
                 table: *const $sample,
                 table_n: usize,
@@ -150,7 +150,7 @@ macro_rules! format {
                 difference: *mut $sample,
                 difference_n: usize,
             ) -> Reply<$value>;
-            fn $matrix(
+            pub fn $matrix(
                 sum: *const $sample,
                 sum_n: usize,
                 difference: *const $sample,

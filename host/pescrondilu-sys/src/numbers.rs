@@ -42,10 +42,10 @@ unsafe extern "C" {
     pub safe fn pescrondilu_q14_from_f64(x: f64) -> CodedQ14;
     pub safe fn pescrondilu_correction_plain(f: f32) -> u32;
     pub safe fn pescrondilu_correction_fast(f: f32) -> u32;
-    fn pescrondilu_cos_f32(table: *const f32, n: usize, p: u32) -> f32;
-    fn pescrondilu_interp_f32_pair(table: *const f32, n: usize, p: u32) -> Pair;
-    fn pescrondilu_cos_q15(table: *const i16, n: usize, p: u32) -> i16;
-    fn pescrondilu_interp_q15(table: *const i16, n: usize, p: u32) -> i32;
+    pub fn pescrondilu_cos_f32(table: *const f32, n: usize, p: u32) -> f32;
+    pub fn pescrondilu_interp_f32_pair(table: *const f32, n: usize, p: u32) -> Pair;
+    pub fn pescrondilu_cos_q15(table: *const i16, n: usize, p: u32) -> i16;
+    pub fn pescrondilu_interp_q15(table: *const i16, n: usize, p: u32) -> i32;
 }
 
 // SAFETY, for each call below: the pointer and the length are those of one slice.

@@ -102,7 +102,7 @@ unsafe extern "C" {
     pub safe fn pescrondilu_encode_set_pilot(e: StereoEncode, pilot: f32) -> CodedEncode;
     pub safe fn pescrondilu_encode_set_phase(e: StereoEncode, p: u32) -> StereoEncode;
     pub safe fn pescrondilu_encode_reset(e: StereoEncode) -> StereoEncode;
-    fn pescrondilu_encode_block(
+    pub fn pescrondilu_encode_block(
         e: StereoEncode,
         table: *const f32,
         table_n: usize,
@@ -125,7 +125,7 @@ unsafe extern "C" {
     pub safe fn pescrondilu_encode_rds_set_rds(e: StereoEncodeRds, rds: f32) -> CodedEncodeRds;
     pub safe fn pescrondilu_encode_rds_set_phase(e: StereoEncodeRds, p: u32) -> StereoEncodeRds;
     pub safe fn pescrondilu_encode_rds_reset(e: StereoEncodeRds) -> StereoEncodeRds;
-    fn pescrondilu_encode_rds_block(
+    pub fn pescrondilu_encode_rds_block(
         e: StereoEncodeRds,
         table: *const f32,
         table_n: usize,

@@ -1,6 +1,6 @@
-//! Our static libraries as a Rust program sees them: the structs of the C boundary with their
-//! layouts, the functions, and for those with slices a wrapper, since C takes a slice as a pointer
-//! and a length.
+//! The C names of the proved FM stereo core, as include/pescrondilu.h has them: the structs with
+//! their layouts, the functions, and for each function with slices a safe wrapper, since C takes a
+//! slice as a pointer and a length. The crate `pescrondilu` is for programs.
 
 /// Asserts a struct's size and the offset of each of its fields.
 macro_rules! layout {

@@ -1,0 +1,1 @@
+//! The proved FM stereo core under the names of sdrk.
