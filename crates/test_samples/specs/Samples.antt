@@ -24,8 +24,8 @@ drawnOf spec i = mixedOf (spec % 2 ^ 32 + i)
 
 -- a pattern: v's bit 31 as the sign, the exponent from 2^-8 to 2^-1 by its three lowest bits, the next 23 as
 -- the digits
-unfoldable pub calmOf : ℕ → ℕ
-calmOf v = v / 2 ^ 31 % 2 * 2 ^ 31 + (119 + v % 8) * 2 ^ 23 + v / 8 % 2 ^ 23
+unfoldable pub boundedOf : ℕ → ℕ
+boundedOf v = v / 2 ^ 31 % 2 * 2 ^ 31 + (119 + v % 8) * 2 ^ 23 + v / 8 % 2 ^ 23
 
 -- the sample whose pattern a word's low bits are
 abbrev pub lowF32 : ℕ → Float
@@ -43,7 +43,7 @@ triangleOf i =
 
 -- any bits where 8 divides w, else from 2^-8 to 1 in size
 unfoldable pub anyOf : ℕ → Float
-anyOf w = lowF32 (cond (eqb (w % 8) 0) (mixedOf w) (calmOf (mixedOf w)))
+anyOf w = lowF32 (cond (eqb (w % 8) 0) (mixedOf w) (boundedOf (mixedOf w)))
 
 -- the i-th sample of a word: the kind stands above 32 bits, 1 a triangle, 2 one value, 3 sizes from 2^-8 to 1,
 -- else any
@@ -52,7 +52,7 @@ sampleF32Of spec i =
     let kind = spec / 2 ^ 32 in
     cond (eqb kind 1) (toFormat binary32 (triangleOf i))
     (cond (eqb kind 2) (lowF32 spec)
-    (cond (eqb kind 3) (lowF32 (calmOf (drawnOf spec i)))
+    (cond (eqb kind 3) (lowF32 (boundedOf (drawnOf spec i)))
     (anyOf (drawnOf spec i))))
 
 -- in Q15 no bits make a NaN, so 3 is as any

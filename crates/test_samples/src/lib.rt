@@ -4,7 +4,7 @@
 ghost use mathlib.Core.Path.{_≡_};
 ghost use lib.ListN.{length};
 ghost use Rattle.answers.specs.Samples.{samples};
-ghost use Rattle.test_samples.specs.Samples.{mixedOf, drawnOf, calmOf, triangleOf, anyOf, sampleF32Of, sampleQ15Of};
+ghost use Rattle.test_samples.specs.Samples.{mixedOf, drawnOf, boundedOf, triangleOf, anyOf, sampleF32Of, sampleQ15Of};
 
 // 32 bits that look random.
 fn mixed(n: u64) -> u64
@@ -24,8 +24,8 @@ fn drawn(spec: u64, i: usize) -> u64
 }
 
 // The pattern of an f32 from 2^-8 to 1 in size.
-fn calm(v: u64) -> u64
-    ensures { λ r. ⌜ r ≡ calmOf v ⌝ }
+fn bounded(v: u64) -> u64
+    ensures { λ r. ⌜ r ≡ boundedOf v ⌝ }
 {
     v / 2147483648 % 2 * 2147483648 + (119 + v % 8) * 8388608 + v / 8 % 8388608
 }
@@ -47,7 +47,7 @@ fn any_f32(w: u64) -> f32
     if w % 8 == 0 {
         return test_lines::words::f32_of(v);
     }
-    test_lines::words::f32_of(calm(v))
+    test_lines::words::f32_of(bounded(v))
 }
 
 fn sample_f32(spec: u64, i: usize) -> f32
@@ -56,7 +56,7 @@ fn sample_f32(spec: u64, i: usize) -> f32
     match spec / 4294967296 {
         1 => floats::bits::f64_to_f32(triangle(i)),
         2 => test_lines::words::f32_of(spec),
-        3 => test_lines::words::f32_of(calm(drawn(spec, i))),
+        3 => test_lines::words::f32_of(bounded(drawn(spec, i))),
         _ => any_f32(drawn(spec, i)),
     }
 }

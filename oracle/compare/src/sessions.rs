@@ -159,7 +159,7 @@ fn level(r: &mut Inputs, l: &Limits) -> f32 {
 }
 
 /// A block, one in four with a damaged length, the table's among them.
-fn block(r: &mut Inputs, table: &[f32], calm: bool) -> Block {
+fn block(r: &mut Inputs, table: &[f32], bounded: bool) -> Block {
     let n = match r.below(3) {
         0 => one(r, &[0, 1, 2, 63, 64, 65]),
         _ => r.below(100) as usize,
@@ -177,7 +177,7 @@ fn block(r: &mut Inputs, table: &[f32], calm: bool) -> Block {
     let [entries, left, right, rds, output] = all;
     let mut table = table.to_vec();
     table.resize(entries, 1.0);
-    let mut samples = |m| r.block_f32(m, calm);
+    let mut samples = |m| r.block_f32(m, bounded);
     Block {
         table,
         left: samples(left),
@@ -189,15 +189,15 @@ fn block(r: &mut Inputs, table: &[f32], calm: bool) -> Block {
 
 /// Some calls of a session, on a table of its own.
 fn go(session: &mut Session<2>, r: &mut Inputs, l: &Limits, with_rds: bool) {
-    let calm = r.below(2) == 0;
-    let table = r.table_f32(calm);
+    let bounded = r.below(2) == 0;
+    let table = r.table_f32(bounded);
     for _ in 0..calls(r) {
         match r.below(8) {
             0 => session.set(Call::Pilot(level(r, l))),
             1 if with_rds => session.set(Call::Rds(level(r, l))),
             2 => session.set(Call::Phase(r.u32())),
             3 => session.set(Call::Reset),
-            _ => session.block(&block(r, &table, calm)),
+            _ => session.block(&block(r, &table, bounded)),
         }
     }
 }

@@ -286,8 +286,8 @@ fn matrix_f32() -> bool {
     let mut part = Part::new("matrix_f32");
     let all: Vec<[usize; 4]> = (0..20).flat_map(|_| lengths(&mut r)).collect();
     for (k, n) in all.iter().enumerate() {
-        let calm = k % 3 == 0;
-        let [sum, difference, left, right] = n.map(|m| r.block_f32(m, calm));
+        let bounded = k % 3 == 0;
+        let [sum, difference, left, right] = n.map(|m| r.block_f32(m, bounded));
         let (mut l, mut ri) = (left.clone(), right.clone());
         let said = matrix(&sum, &difference, &mut l, &mut ri).numbers();
         let words = |x: &[f32]| x.iter().map(|y| word_f32(*y)).collect::<Vec<_>>();
@@ -369,15 +369,15 @@ fn encoder(name: &'static str, with_rds: bool) -> bool {
     let mut part = Part::new(name);
     let all: Vec<[usize; 4]> = (0..20).flat_map(|_| lengths(&mut r)).collect();
     for (k, n) in all.iter().enumerate() {
-        let calm = k % 3 == 0;
+        let bounded = k % 3 == 0;
         let entries = if n.iter().all(|m| *m == n[0]) {
             TABLES[k % TABLES.len()]
         } else {
             one(&mut r, &[TABLE, TABLE, TABLE, 4096])
         };
-        let table = r.block_f32(entries, calm);
-        let fields = r.fields(calm);
-        let [left, right, rds, output] = n.map(|m| r.block_f32(m, calm));
+        let table = r.block_f32(entries, bounded);
+        let fields = r.fields(bounded);
+        let [left, right, rds, output] = n.map(|m| r.block_f32(m, bounded));
         let block = Block {
             table,
             left,

@@ -235,8 +235,8 @@ impl Drawn for f32 {
     }
 
     fn samples(r: &mut Inputs, n: usize) -> Vec<f32> {
-        let calm = r.below(2) == 0;
-        r.block_f32(n, calm)
+        let bounded = r.below(2) == 0;
+        r.block_f32(n, bounded)
     }
 }
 

@@ -28,7 +28,7 @@ fn triangle(i: usize) -> f64 {
     if k < 2048 { 1.0 - x } else { x - 3.0 }
 }
 
-fn calm(v: u64) -> u32 {
+fn bounded(v: u64) -> u32 {
     (v >> 31 << 31 | (119 + v % 8) << 23 | v / 8 % (1 << 23)) as u32
 }
 
@@ -43,11 +43,11 @@ impl Made for f32 {
         match spec >> 32 << 32 {
             TRIANGLE => triangle(i) as f32,
             ONE => Self::low(spec),
-            CALM => f32::from_bits(calm(drawn(spec, i))),
+            CALM => f32::from_bits(bounded(drawn(spec, i))),
             _ => {
                 let w = drawn(spec, i);
                 let v = mixed(w);
-                f32::from_bits(if w % 8 == 0 { v as u32 } else { calm(v) })
+                f32::from_bits(if w % 8 == 0 { v as u32 } else { bounded(v) })
             }
         }
     }

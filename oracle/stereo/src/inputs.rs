@@ -81,11 +81,11 @@ impl Inputs {
         }
     }
 
-    /// `calm` leaves out NaNs and infinities.
-    pub fn block_f32(&mut self, n: usize, calm: bool) -> Vec<f32> {
+    /// `bounded` leaves out NaNs and infinities.
+    pub fn block_f32(&mut self, n: usize, bounded: bool) -> Vec<f32> {
         (0..n)
             .map(|_| {
-                if calm {
+                if bounded {
                     self.ordinary_f32()
                 } else {
                     self.f32()
@@ -98,17 +98,17 @@ impl Inputs {
         (0..n).map(|_| self.i16()).collect()
     }
 
-    pub fn table_f32(&mut self, calm: bool) -> Vec<f32> {
-        self.block_f32(TABLE, calm)
+    pub fn table_f32(&mut self, bounded: bool) -> Vec<f32> {
+        self.block_f32(TABLE, bounded)
     }
 
     pub fn table_q15(&mut self) -> Vec<i16> {
         self.block_i16(TABLE)
     }
 
-    pub fn fields(&mut self, calm: bool) -> Fields {
+    pub fn fields(&mut self, bounded: bool) -> Fields {
         let mut f32 = || {
-            if calm {
+            if bounded {
                 self.ordinary_f32()
             } else {
                 self.f32()

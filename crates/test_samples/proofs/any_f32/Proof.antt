@@ -14,7 +14,7 @@ returns-2 : tie.Need-returns-2
 unfolding anyOf
 returns-2 c =
     let m = c .before .before .before in
-    rw (c .f32-of2 .ensures, c .before .calm .ensures, m .mixed .ensures, ne-eqb (m .before .args .w % 8) 0 (c .before .before .if1 .left))
+    rw (c .f32-of2 .ensures, c .before .bounded .ensures, m .mixed .ensures, ne-eqb (m .before .args .w % 8) 0 (c .before .before .if1 .left))
 
 pub any-f32-spec : {M : Type 1} → statement M
 any-f32-spec =

@@ -18,7 +18,7 @@ returns-3 : tie.Need-returns-3
 unfolding sampleF32Of
 returns-3 c =
     let d = c .before .before in
-    rw (c .f32-of2 .ensures, c .before .calm .ensures, d .drawn .ensures, d .before .match .keys3)
+    rw (c .f32-of2 .ensures, c .before .bounded .ensures, d .drawn .ensures, d .before .match .keys3)
 
 returns-4 : tie.Need-returns-4
 unfolding sampleF32Of
