@@ -25,8 +25,8 @@
  *     A NaN that comes back may have other bits than the one that went in.
  *   - A switch (stereo, enabled) is a uint32_t, off at 0 and on at anything else. It comes back
  *     as 0 or 1.
- *   - A record's read-outs are its fields; for a decoder's levels in common units there is the
- *     read call.
+ *   - A record's read-outs are its fields. The read call gives a decoder's in the same units for
+ *     both formats.
  *
  * Refusals
  *   A call that may be refused answers with a code: 0 is accepted, and PESCRONDILU_REFUSED plus
@@ -171,9 +171,10 @@ typedef struct pescrondilu_readout {
 } pescrondilu_readout;
 
 /*
- * Makes a decoder: pilot and natural frequency in Hz, the pilot's amplitude, the lock coefficient
- * (1 - exp(-1 / (rate * seconds)) for a level that settles in that time), and the rate in samples
- * a second. It begins with phase, integrator and level 0, in mono, enabled. Causes 1 to 6.
+ * Makes a decoder: the pilot's and the loop's natural frequency in Hz, the amplitude expected of
+ * the pilot, the lock coefficient (1 - exp(-1 / (rate * seconds)) for a level with that time
+ * constant), and the rate in samples a second. It begins with phase, integrator and level 0, in
+ * mono, enabled. Causes 1 to 6.
  */
 pescrondilu_f32_made pescrondilu_f32_new(double pilot, double natural, double level, double beta,
                                          double rate);
@@ -447,7 +448,10 @@ int16_t pescrondilu_q15_from_f64(double x);
 /* x as a Q14 number, rounded. Cause 18, also for a NaN. */
 pescrondilu_q14 pescrondilu_q14_from_f64(double x);
 
-/* The phase correction: floor(f times 2^32 + 0.5) modulo 2^32. Both ways are equal. */
+/*
+ * The phase correction: floor(f times 2^32 + 0.5), stopping at the ends of int64_t, modulo 2^32; a
+ * NaN gives 0. Both ways are equal.
+ */
 uint32_t pescrondilu_correction_plain(float f);
 uint32_t pescrondilu_correction_fast(float f);
 
