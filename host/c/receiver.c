@@ -1,0 +1,261 @@
+/*
+ * A receiver in C, from the multiplex to left and right, and what the library does with a wrong
+ * call. From this folder, after host/library:
+ *
+ *     cc receiver.c -I../../include -L../../target/staticlib -lpescrondilu -lm
+ *     ./a.out
+ *
+ * It prints what it found and exits with 0 only if all is as expected.
+ */
+#include "pescrondilu.h"
+
+#include <math.h>
+#include <stdio.h>
+#include <string.h>
+
+#define RATE 192000.0
+#define PILOT_HZ 19000.0
+#define PILOT 0.09f    /* the pilot's amplitude; 0.08 to 0.1 may go on air */
+#define BLOCK 1920     /* 10 ms */
+#define TOTAL 96000    /* half a second, a whole number of blocks */
+#define MEASURED 19200 /* the last 100 ms: whole periods of both tones */
+#define LEFT_HZ 1000.0
+#define RIGHT_HZ 400.0
+#define TONE 0.3 /* so that sum and twice the difference stay in Q15 with no filter before */
+#define MAIN 0.8f
+#define TURN 6.283185307179586
+
+/* Large, so not on the stack. */
+static float table[PESCRONDILU_TABLE_LENGTH];
+static float left_in[TOTAL], right_in[TOTAL], mpx[TOTAL], pilot[TOTAL];
+static float sum[TOTAL], difference[TOTAL], left[TOTAL], right[TOTAL];
+
+static int16_t table_q15[PESCRONDILU_TABLE_LENGTH];
+static int16_t mpx_q15[TOTAL], pilot_q15[TOTAL];
+static int16_t sum_q15[TOTAL], difference_q15[TOTAL], left_q15[TOTAL], right_q15[TOTAL];
+
+static int wrong = 0;
+
+static void expect(int as_expected, const char *what)
+{
+    if (!as_expected) {
+        printf("NOT AS EXPECTED: %s\n", what);
+        wrong = 1;
+    }
+}
+
+/*
+ * The amplitude of a tone in the last MEASURED samples. A receiver has a low-pass here, against
+ * what is left of the pilot and the subcarriers. The library has no filters, and this measure is
+ * blind to all but the tone.
+ */
+static double tone(const float *x, double hz)
+{
+    double c = 0, s = 0;
+    for (int i = TOTAL - MEASURED; i < TOTAL; i++) {
+        c += x[i] * cos(TURN * hz * i / RATE);
+        s += x[i] * sin(TURN * hz * i / RATE);
+    }
+    return 2 * sqrt(c * c + s * s) / MEASURED;
+}
+
+static double tone_q15(const int16_t *x, double hz)
+{
+    static float scaled[TOTAL];
+    for (int i = 0; i < TOTAL; i++)
+        scaled[i] = (float)x[i] / 32768;
+    return tone(scaled, hz);
+}
+
+/* Left and right have each their own tone and little of the other's. */
+static void separated(const char *format, double ll, double lr, double rr, double rl)
+{
+    printf("%s: left tone %.4f in left, %.4f in right; right tone %.4f in right, %.4f in left\n",
+           format, ll, lr, rr, rl);
+    double sent = MAIN * TONE;
+    expect(fabs(ll - sent) < 0.01 * sent && fabs(rr - sent) < 0.01 * sent,
+           "each tone is in its channel, as strong as it was sent");
+    expect(lr < 0.01 * sent && rl < 0.01 * sent, "each tone is 40 dB down in the other channel");
+}
+
+/* The table is the caller's. Any numbers are taken; the cosine is the one that makes stereo. */
+static void make_tables(void)
+{
+    for (int i = 0; i < PESCRONDILU_TABLE_LENGTH; i++) {
+        double c = cos(TURN * i / 4096);
+        table[i] = (float)c;
+        table_q15[i] = (int16_t)lrint(32767 * c);
+    }
+}
+
+/* What an exciter does: two tones, encoded in one block. */
+static void make_multiplex(void)
+{
+    for (int i = 0; i < TOTAL; i++) {
+        left_in[i] = (float)(TONE * sin(TURN * LEFT_HZ * i / RATE));
+        right_in[i] = (float)(TONE * sin(TURN * RIGHT_HZ * i / RATE));
+    }
+    pescrondilu_encode_made made = pescrondilu_encode_new(PILOT_HZ, MAIN, PILOT, RATE);
+    expect(made.code == 0, "the encoder is made");
+
+    /* A receiver filters the pilot out of the multiplex. Here it is made anew, a sine at the phase
+     * of the encoder's own oscillator, so that it is in step with the multiplex. */
+    for (size_t i = 0; i < TOTAL; i++) {
+        pescrondilu_nco at = pescrondilu_nco_advance(made.encoder.nco, i);
+        pilot[i] = (float)(PILOT * sin(TURN * at.phase / 4294967296.0));
+    }
+
+    pescrondilu_encode_reply reply =
+        pescrondilu_encode_block(made.encoder, table, PESCRONDILU_TABLE_LENGTH, left_in, TOTAL,
+                                 right_in, TOTAL, mpx, TOTAL);
+    expect(reply.answer.code == 0, "the encoder's block is accepted");
+
+    for (int i = 0; i < TOTAL; i++) {
+        mpx_q15[i] = pescrondilu_q15_from_f64(mpx[i]);
+        pilot_q15[i] = pescrondilu_q15_from_f64(pilot[i]);
+    }
+    uint32_t good = pescrondilu_on_air(PILOT_HZ, PILOT);
+    uint32_t weak = pescrondilu_on_air(PILOT_HZ, 0.075f);
+    printf("on air: %u with the pilot at 0.09, %u at 0.075\n", good, weak);
+    expect(good == 1 && weak == 0, "the verdict is yes at 0.09 and no at 0.075");
+}
+
+/* The lock coefficient for a level that settles with a time constant of 50 ms. */
+static double lock_coefficient(void)
+{
+    return 1 - exp(-1 / (RATE * 0.05));
+}
+
+static pescrondilu_f32 receive_f32(void)
+{
+    pescrondilu_f32_made made =
+        pescrondilu_f32_new(PILOT_HZ, 20, PILOT, lock_coefficient(), RATE);
+    expect(made.code == 0, "the f32 decoder is made");
+    expect(made.decoder.enabled == 1 && made.decoder.stereo == 0, "it begins enabled, in mono");
+
+    /* The decoder is a plain struct. Each block is handed it and gives the next one back. */
+    pescrondilu_f32 d = made.decoder;
+    for (int at = 0; at < TOTAL; at += BLOCK) {
+        pescrondilu_f32_reply reply = pescrondilu_f32_block(
+            d, table, PESCRONDILU_TABLE_LENGTH, mpx + at, BLOCK, pilot + at, BLOCK, sum + at, BLOCK,
+            difference + at, BLOCK);
+        expect(reply.answer.code == 0, "the f32 block is accepted");
+        d = reply.decoder;
+        if (at == 0 || at == 2 * BLOCK)
+            printf("f32 after %3d ms: level %.4f, lamp %s\n", (at + BLOCK) / (int)(RATE / 1000),
+                   pescrondilu_f32_read(d).lock_level, d.stereo ? "on" : "off");
+    }
+
+    pescrondilu_readout r = pescrondilu_f32_read(d);
+    printf("f32 at the end:   level %.4f, lamp %s\n", r.lock_level, r.stereo ? "on" : "off");
+    expect(fabs(r.lock_level - PILOT / 2) < 0.001, "the level settles at half the amplitude");
+    expect(r.stereo == 1, "the f32 lamp is on");
+
+    pescrondilu_answer a = pescrondilu_matrix_f32(sum, TOTAL, difference, TOTAL, left, TOTAL, right,
+                                                  TOTAL);
+    expect(a.code == 0, "the f32 matrix is accepted");
+    separated("f32", tone(left, LEFT_HZ), tone(right, LEFT_HZ), tone(right, RIGHT_HZ),
+              tone(left, RIGHT_HZ));
+    return d;
+}
+
+static void receive_q15(void)
+{
+    pescrondilu_q15_made made =
+        pescrondilu_q15_new(PILOT_HZ, 20, PILOT, lock_coefficient(), RATE);
+    expect(made.code == 0, "the Q15 decoder is made");
+
+    pescrondilu_q15 d = made.decoder;
+    for (int at = 0; at < TOTAL; at += BLOCK) {
+        pescrondilu_q15_reply reply = pescrondilu_q15_block(
+            d, table_q15, PESCRONDILU_TABLE_LENGTH, mpx_q15 + at, BLOCK, pilot_q15 + at, BLOCK,
+            sum_q15 + at, BLOCK, difference_q15 + at, BLOCK);
+        expect(reply.answer.code == 0, "the Q15 block is accepted");
+        d = reply.decoder;
+    }
+
+    pescrondilu_readout r = pescrondilu_q15_read(d);
+    printf("Q15 at the end:   level %.4f, lamp %s\n", r.lock_level, r.stereo ? "on" : "off");
+    expect(fabs(r.lock_level - PILOT / 2) < 0.001, "the level settles at half the amplitude");
+    expect(r.stereo == 1, "the Q15 lamp is on");
+
+    pescrondilu_answer a = pescrondilu_matrix_q15(sum_q15, TOTAL, difference_q15, TOTAL, left_q15,
+                                                  TOTAL, right_q15, TOTAL);
+    expect(a.code == 0, "the Q15 matrix is accepted");
+    separated("Q15", tone_q15(left_q15, LEFT_HZ), tone_q15(right_q15, LEFT_HZ),
+              tone_q15(right_q15, RIGHT_HZ), tone_q15(left_q15, RIGHT_HZ));
+}
+
+/* A block with a pilot one sample short is refused, and nothing changes. */
+static void refuse(pescrondilu_f32 d)
+{
+    static float sum_before[TOTAL], difference_before[TOTAL];
+    memcpy(sum_before, sum, sizeof sum);
+    memcpy(difference_before, difference, sizeof difference);
+
+    pescrondilu_f32_reply reply =
+        pescrondilu_f32_block(d, table, PESCRONDILU_TABLE_LENGTH, mpx, BLOCK, pilot, BLOCK - 1, sum,
+                              BLOCK, difference, BLOCK);
+    printf("pilot one short: code %u, expected %zu, got %zu\n", reply.answer.code,
+           reply.answer.expected, reply.answer.got);
+    expect(reply.answer.code == PESCRONDILU_REFUSED + 10, "the code is 110");
+    expect(reply.answer.expected == BLOCK && reply.answer.got == BLOCK - 1, "it has the lengths");
+
+    /* All fields of the record are 4 bytes long, so it has no padding that could differ. */
+    int kept = memcmp(&reply.decoder, &d, sizeof d) == 0 &&
+               memcmp(sum, sum_before, sizeof sum) == 0 &&
+               memcmp(difference, difference_before, sizeof difference) == 0;
+    printf("record and outputs: %s\n", kept ? "as they were" : "changed");
+    expect(kept, "a refused block leaves record and outputs as they were");
+
+    /* A decoder that cannot be made is all zeros. */
+    pescrondilu_f32_made none = pescrondilu_f32_new(PILOT_HZ, 20, PILOT, lock_coefficient(), 0);
+    static const pescrondilu_f32 zeros;
+    printf("a rate of 0: code %u\n", none.code);
+    expect(none.code == PESCRONDILU_REFUSED + 1, "the code is 101");
+    expect(memcmp(&none.decoder, &zeros, sizeof zeros) == 0, "the decoder is all zeros");
+}
+
+/* A switch is on at anything but 0, and comes back as 0 or 1. */
+static void use_switches(pescrondilu_f32 d)
+{
+    static float as_1[BLOCK], as_2[BLOCK], off[BLOCK], same[BLOCK];
+
+    d.enabled = 1;
+    pescrondilu_f32_reply one =
+        pescrondilu_f32_block(d, table, PESCRONDILU_TABLE_LENGTH, mpx, BLOCK, pilot, BLOCK, same,
+                              BLOCK, as_1, BLOCK);
+    d.enabled = 2;
+    pescrondilu_f32_reply two =
+        pescrondilu_f32_block(d, table, PESCRONDILU_TABLE_LENGTH, mpx, BLOCK, pilot, BLOCK, same,
+                              BLOCK, as_2, BLOCK);
+    printf("a switch of 2: comes back as %u\n", two.decoder.enabled);
+    expect(one.answer.code == 0 && two.answer.code == 0, "both blocks are accepted");
+    expect(two.decoder.enabled == 1, "a switch of 2 comes back as 1");
+    expect(memcmp(as_1, as_2, sizeof as_1) == 0, "a switch of 2 is on");
+    expect(as_2[1] != 0, "with the switch on there is a difference");
+
+    /* Disabled, the lamp stays on, since the loop goes on, and the difference is 0. */
+    pescrondilu_f32_reply no =
+        pescrondilu_f32_block(pescrondilu_f32_disable(d), table, PESCRONDILU_TABLE_LENGTH, mpx,
+                              BLOCK, pilot, BLOCK, same, BLOCK, off, BLOCK);
+    int silent = 1;
+    for (int i = 0; i < BLOCK; i++)
+        silent = silent && off[i] == 0;
+    printf("disabled: difference %s, lamp %s\n", silent ? "0" : "heard",
+           no.decoder.stereo ? "on" : "off");
+    expect(silent && no.decoder.stereo == 1 && no.decoder.enabled == 0,
+           "disabled, the difference is 0 and the lamp is on");
+}
+
+int main(void)
+{
+    make_tables();
+    make_multiplex();
+    pescrondilu_f32 d = receive_f32();
+    receive_q15();
+    refuse(d);
+    use_switches(d);
+    puts(wrong ? "not all is as expected" : "all is as expected");
+    return wrong;
+}

@@ -1,0 +1,843 @@
+//! The calls of agreement.c, made from Rust with the same numbers, give the same bits in every
+//! field of what comes back. Here a NaN is compared by its bits too: both sides call the same code.
+
+use crate::sources::header;
+use crate::support::{cc, program, root, run};
+use pescrondilu_sys::Code;
+use pescrondilu_sys::decoder::*;
+use pescrondilu_sys::encoder::*;
+use pescrondilu_sys::numbers::*;
+use std::collections::{BTreeMap, BTreeSet};
+use std::fmt::Write;
+use std::process::Command;
+
+const CASES: u32 = 96;
+const N: usize = 9;
+const TABLE: usize = 4097;
+
+const ODD64: [u64; 12] = [
+    0x0000000000000000,
+    0x8000000000000000,
+    0x7fffffffffffffff,
+    0xffffffffffffffff,
+    0x0000000000000001,
+    0x7ff0000000000000,
+    0xfff0000000000000,
+    0x7ff0dead0000beef,
+    0x3fe0000000000000,
+    0xc1dfffffffc00000,
+    0x8000000000000001,
+    0x0000000080000000,
+];
+const ODD32: [u32; 12] = [
+    0x00000000, 0x80000000, 0x7fffffff, 0xffffffff, 0x00000001, 0x7f800000, 0xff800000, 0x7f80beef,
+    0x3f000000, 0xbf7fffff, 0x807fffff, 0x00007fff,
+];
+const SWITCHES: [u32; 4] = [0, 1, 2, 0xffffffff];
+
+/// The numbers of a case, the samples, and the lines. agreement.c says what each is.
+struct Calls {
+    state: u64,
+    kind: u32,
+    fault: u32,
+    table: Vec<f32>,
+    table_q: Vec<i16>,
+    in1: [f32; N],
+    in2: [f32; N],
+    in3: [f32; N],
+    out1: [f32; N],
+    out2: [f32; N],
+    in1_q: [i16; N],
+    in2_q: [i16; N],
+    out1_q: [i16; N],
+    out2_q: [i16; N],
+    lines: String,
+}
+
+impl Calls {
+    fn new() -> Calls {
+        let mut t = Calls {
+            state: 2026,
+            kind: 0,
+            fault: 0,
+            table: Vec::new(),
+            table_q: Vec::new(),
+            in1: [0.0; N],
+            in2: [0.0; N],
+            in3: [0.0; N],
+            out1: [0.0; N],
+            out2: [0.0; N],
+            in1_q: [0; N],
+            in2_q: [0; N],
+            out1_q: [0; N],
+            out2_q: [0; N],
+            lines: String::new(),
+        };
+        for _ in 0..TABLE {
+            t.kind = 3;
+            let entry = t.any_float();
+            t.table.push(entry);
+            t.kind = 1;
+            let entry = t.any16();
+            t.table_q.push(entry);
+        }
+        t
+    }
+
+    /// A line for each case.
+    fn each(&mut self, name: &str, call: fn(&mut Calls)) {
+        for k in 0..CASES {
+            self.kind = k % 4;
+            self.fault = k / 4 % 8;
+            self.lines.push_str(name);
+            call(self);
+            self.lines.push('\n');
+        }
+    }
+
+    // ---- The numbers
+
+    fn next(&mut self) -> u64 {
+        self.state = self.state.wrapping_add(0x9e3779b97f4a7c15);
+        let z = self.state;
+        let z = (z ^ (z >> 30)).wrapping_mul(0xbf58476d1ce4e5b9);
+        let z = (z ^ (z >> 27)).wrapping_mul(0x94d049bb133111eb);
+        z ^ (z >> 31)
+    }
+
+    fn any64(&mut self) -> u64 {
+        let x = self.next();
+        match self.kind {
+            2 => ODD64[(x % 12) as usize],
+            3 => x >> (x % 64),
+            _ => x,
+        }
+    }
+
+    fn any_i64(&mut self) -> i64 {
+        self.any64() as i64
+    }
+
+    fn any32(&mut self) -> u32 {
+        let x = self.next();
+        match self.kind {
+            2 => ODD32[(x % 12) as usize],
+            3 => ((x >> 32) >> (x % 32)) as u32,
+            _ => (x >> 32) as u32,
+        }
+    }
+
+    fn any16(&mut self) -> i16 {
+        self.any32() as i16
+    }
+
+    fn any_float(&mut self) -> f32 {
+        match self.kind {
+            3 => (self.next() >> 32) as u32 as i32 as f32 / 2147483648.0,
+            0 => f32::from_bits((self.next() as u32 & 0x807fffff) | 0x7f800001),
+            _ => f32::from_bits(self.any32()),
+        }
+    }
+
+    fn any_double(&mut self) -> f64 {
+        match self.kind {
+            3 => (self.next() >> 32) as u32 as i32 as f64 / 1024.0,
+            0 => f64::from_bits((self.next() & 0x800fffffffffffff) | 0x7ff0000000000001),
+            _ => f64::from_bits(self.any64()),
+        }
+    }
+
+    fn near_double(&mut self, x: f64) -> f64 {
+        match self.kind {
+            3 => x + (self.next() >> 44) as f64 / 1048576.0,
+            _ => self.any_double(),
+        }
+    }
+
+    fn near_float(&mut self, x: f32) -> f32 {
+        match self.kind {
+            3 => x + (self.next() >> 48) as f32 / 1048576.0,
+            _ => self.any_float(),
+        }
+    }
+
+    fn any_switch(&mut self) -> u32 {
+        SWITCHES[(self.next() % 4) as usize]
+    }
+
+    /// A shifted number where the record is to be fit, else any.
+    fn fit_or_any(&mut self, shift: u32) -> i64 {
+        match self.kind {
+            3 => (self.next() >> shift) as i64,
+            _ => self.any_i64(),
+        }
+    }
+
+    // Rust works the fields of a literal in the order in which they stand there.
+
+    fn any_f32(&mut self) -> Decoder<f32> {
+        Decoder {
+            kp: self.any_float(),
+            ki: self.any_float(),
+            imax: self.any_float(),
+            beta: self.any_float(),
+            on: self.any_float(),
+            off: self.any_float(),
+            integ: self.any_float(),
+            level: self.any_float(),
+            step0: self.any32(),
+            phase: self.any32(),
+            stereo: self.any_switch(),
+            enabled: self.any_switch(),
+        }
+    }
+
+    fn any_q15(&mut self) -> Decoder<i64> {
+        let kp = self.fit_or_any(36);
+        let ki = self.fit_or_any(40);
+        let imax = self.fit_or_any(8);
+        Decoder {
+            kp,
+            ki,
+            imax,
+            beta: self.fit_or_any(33),
+            on: self.fit_or_any(4),
+            off: self.fit_or_any(5),
+            integ: if self.kind == 3 {
+                -(imax / 2)
+            } else {
+                self.any_i64()
+            },
+            level: self.fit_or_any(4),
+            step0: self.any32(),
+            phase: self.any32(),
+            stereo: self.any_switch(),
+            enabled: self.any_switch(),
+        }
+    }
+
+    fn any_nco(&mut self) -> Nco {
+        Nco {
+            phase: self.any32(),
+            inc: self.any32(),
+        }
+    }
+
+    fn any_encode(&mut self) -> StereoEncode {
+        StereoEncode {
+            nco: self.any_nco(),
+            main: self.any_float(),
+            pilot: self.any_float(),
+        }
+    }
+
+    fn any_encode_rds(&mut self) -> StereoEncodeRds {
+        StereoEncodeRds {
+            enc: self.any_encode(),
+            rds: self.any_float(),
+        }
+    }
+
+    fn fill(&mut self) {
+        for i in 0..N {
+            self.in1[i] = self.any_float();
+            self.in2[i] = self.any_float();
+            self.in3[i] = self.any_float();
+            self.in1_q[i] = self.any16();
+            self.in2_q[i] = self.any16();
+            self.out1[i] = f32::from_bits(0xffa00000 + i as u32);
+            self.out2[i] = f32::from_bits(0x7fb00000 + i as u32);
+            self.out1_q[i] = 0x1110 + i as i16;
+            self.out2_q[i] = 0x2220 + i as i16;
+        }
+    }
+
+    fn length(&self, n: usize, which: u32) -> usize {
+        if self.fault == which { n - 1 } else { n }
+    }
+
+    fn table_n(&self) -> usize {
+        self.length(TABLE, 4)
+    }
+
+    // ---- What came back
+
+    fn put16(&mut self, x: i16) {
+        write!(self.lines, " {:04x}", x as u16).expect("a string takes it");
+    }
+
+    fn put32(&mut self, x: u32) {
+        write!(self.lines, " {x:08x}").expect("a string takes it");
+    }
+
+    fn put64(&mut self, x: u64) {
+        write!(self.lines, " {x:016x}").expect("a string takes it");
+    }
+
+    fn put_float(&mut self, x: f32) {
+        self.put32(x.to_bits());
+    }
+
+    fn put_double(&mut self, x: f64) {
+        self.put64(x.to_bits());
+    }
+
+    fn put_bool(&mut self, x: bool) {
+        write!(self.lines, " {:02x}", x as u8).expect("a string takes it");
+    }
+
+    fn put_answer(&mut self, a: Code) {
+        self.put32(a.code);
+        self.put64(a.expected as u64);
+        self.put64(a.got as u64);
+    }
+
+    /// What stands behind a decoder's numbers in both formats.
+    fn put_rest<V>(&mut self, d: Decoder<V>) {
+        self.put32(d.step0);
+        self.put32(d.phase);
+        self.put32(d.stereo);
+        self.put32(d.enabled);
+    }
+
+    fn put_f32(&mut self, d: Decoder<f32>) {
+        for x in [d.kp, d.ki, d.imax, d.beta, d.on, d.off, d.integ, d.level] {
+            self.put_float(x);
+        }
+        self.put_rest(d);
+    }
+
+    fn put_q15(&mut self, d: Decoder<i64>) {
+        for x in [d.kp, d.ki, d.imax, d.beta, d.on, d.off, d.integ, d.level] {
+            self.put64(x as u64);
+        }
+        self.put_rest(d);
+    }
+
+    fn put_readout(&mut self, r: Readout) {
+        self.put_double(r.integrator);
+        self.put_double(r.integrator_limit);
+        self.put_double(r.lock_level);
+        self.put32(r.phase);
+        self.put32(r.stereo);
+        self.put32(r.enabled);
+    }
+
+    fn put_nco(&mut self, o: Nco) {
+        self.put32(o.phase);
+        self.put32(o.inc);
+    }
+
+    fn put_nco_made(&mut self, m: CodedNco) {
+        self.put32(m.code);
+        self.put_nco(m.nco);
+    }
+
+    fn put_encode(&mut self, e: StereoEncode) {
+        self.put_nco(e.nco);
+        self.put_float(e.main);
+        self.put_float(e.pilot);
+    }
+
+    fn put_encode_made(&mut self, m: CodedEncode) {
+        self.put32(m.code);
+        self.put_encode(m.encoder);
+    }
+
+    fn put_encode_rds(&mut self, e: StereoEncodeRds) {
+        self.put_encode(e.enc);
+        self.put_float(e.rds);
+    }
+
+    fn put_encode_rds_made(&mut self, m: CodedEncodeRds) {
+        self.put32(m.code);
+        self.put_encode_rds(m.encoder);
+    }
+
+    fn put_outputs(&mut self) {
+        for i in 0..N {
+            self.put_float(self.out1[i]);
+            self.put_float(self.out2[i]);
+            self.put16(self.out1_q[i]);
+            self.put16(self.out2_q[i]);
+        }
+    }
+
+    // ---- The blocks. SAFETY, for each: no length is above that of its slice, and no output
+    // overlaps another argument.
+
+    fn f32_block(&mut self, way: Way) {
+        self.fill();
+        let d = self.any_f32();
+        let call = match way {
+            Way::Fast => pescrondilu_f32_block,
+            Way::Plain => pescrondilu_f32_plain_block,
+        };
+        let r = unsafe {
+            call(
+                d,
+                self.table.as_ptr(),
+                self.table_n(),
+                self.in1.as_ptr(),
+                N,
+                self.in2.as_ptr(),
+                self.length(N, 5),
+                self.out1.as_mut_ptr(),
+                self.length(N, 6),
+                self.out2.as_mut_ptr(),
+                self.length(N, 7),
+            )
+        };
+        self.put_answer(r.answer);
+        self.put_f32(r.decoder);
+        self.put_outputs();
+    }
+
+    fn q15_block(&mut self, way: Way) {
+        self.fill();
+        let d = self.any_q15();
+        let call = match way {
+            Way::Fast => pescrondilu_q15_block,
+            Way::Plain => pescrondilu_q15_plain_block,
+        };
+        let r = unsafe {
+            call(
+                d,
+                self.table_q.as_ptr(),
+                self.table_n(),
+                self.in1_q.as_ptr(),
+                N,
+                self.in2_q.as_ptr(),
+                self.length(N, 5),
+                self.out1_q.as_mut_ptr(),
+                self.length(N, 6),
+                self.out2_q.as_mut_ptr(),
+                self.length(N, 7),
+            )
+        };
+        self.put_answer(r.answer);
+        self.put_q15(r.decoder);
+        self.put_outputs();
+    }
+
+    fn matrix_f32(&mut self) {
+        self.fill();
+        let a = unsafe {
+            pescrondilu_matrix_f32(
+                self.in1.as_ptr(),
+                N,
+                self.in2.as_ptr(),
+                self.length(N, 5),
+                self.out1.as_mut_ptr(),
+                self.length(N, 6),
+                self.out2.as_mut_ptr(),
+                self.length(N, 7),
+            )
+        };
+        self.put_answer(a);
+        self.put_outputs();
+    }
+
+    fn matrix_q15(&mut self) {
+        self.fill();
+        let a = unsafe {
+            pescrondilu_matrix_q15(
+                self.in1_q.as_ptr(),
+                N,
+                self.in2_q.as_ptr(),
+                self.length(N, 5),
+                self.out1_q.as_mut_ptr(),
+                self.length(N, 6),
+                self.out2_q.as_mut_ptr(),
+                self.length(N, 7),
+            )
+        };
+        self.put_answer(a);
+        self.put_outputs();
+    }
+
+    fn encode_block(&mut self) {
+        self.fill();
+        let e = self.any_encode();
+        let r = unsafe {
+            pescrondilu_encode_block(
+                e,
+                self.table.as_ptr(),
+                self.table_n(),
+                self.in1.as_ptr(),
+                N,
+                self.in2.as_ptr(),
+                self.length(N, 5),
+                self.out1.as_mut_ptr(),
+                self.length(N, 6),
+            )
+        };
+        self.put_answer(r.answer);
+        self.put_encode(r.encoder);
+        self.put_outputs();
+    }
+
+    fn encode_rds_block(&mut self) {
+        self.fill();
+        let e = self.any_encode_rds();
+        let r = unsafe {
+            pescrondilu_encode_rds_block(
+                e,
+                self.table.as_ptr(),
+                self.table_n(),
+                self.in1.as_ptr(),
+                N,
+                self.in2.as_ptr(),
+                self.length(N, 5),
+                self.in3.as_ptr(),
+                self.length(N, 7),
+                self.out1.as_mut_ptr(),
+                self.length(N, 6),
+            )
+        };
+        self.put_answer(r.answer);
+        self.put_encode_rds(r.encoder);
+        self.put_outputs();
+    }
+
+    // ---- The functions, in the order of agreement.c
+
+    fn decoders(&mut self) {
+        self.each("pescrondilu_f32_new", |t| {
+            let m = pescrondilu_f32_new(
+                t.near_double(19000.0),
+                t.near_double(20.0),
+                t.near_double(0.0625),
+                t.near_double(0.001),
+                t.near_double(192000.0),
+            );
+            t.put32(m.code);
+            t.put_f32(m.decoder);
+        });
+        self.each("pescrondilu_q15_new", |t| {
+            let m = pescrondilu_q15_new(
+                t.near_double(19000.0),
+                t.near_double(20.0),
+                t.near_double(0.0625),
+                t.near_double(0.001),
+                t.near_double(192000.0),
+            );
+            t.put32(m.code);
+            t.put_q15(m.decoder);
+        });
+        self.each("pescrondilu_f32_enable", |t| {
+            let d = pescrondilu_f32_enable(t.any_f32());
+            t.put_f32(d);
+        });
+        self.each("pescrondilu_q15_enable", |t| {
+            let d = pescrondilu_q15_enable(t.any_q15());
+            t.put_q15(d);
+        });
+        self.each("pescrondilu_f32_disable", |t| {
+            let d = pescrondilu_f32_disable(t.any_f32());
+            t.put_f32(d);
+        });
+        self.each("pescrondilu_q15_disable", |t| {
+            let d = pescrondilu_q15_disable(t.any_q15());
+            t.put_q15(d);
+        });
+        self.each("pescrondilu_f32_reset", |t| {
+            let d = pescrondilu_f32_reset(t.any_f32());
+            t.put_f32(d);
+        });
+        self.each("pescrondilu_q15_reset", |t| {
+            let d = pescrondilu_q15_reset(t.any_q15());
+            t.put_q15(d);
+        });
+        self.each("pescrondilu_f32_read", |t| {
+            let r = pescrondilu_f32_read(t.any_f32());
+            t.put_readout(r);
+        });
+        self.each("pescrondilu_q15_read", |t| {
+            let r = pescrondilu_q15_read(t.any_q15());
+            t.put_readout(r);
+        });
+        self.each("pescrondilu_f32_block", |t| t.f32_block(Way::Fast));
+        self.each("pescrondilu_f32_plain_block", |t| t.f32_block(Way::Plain));
+        self.each("pescrondilu_q15_block", |t| t.q15_block(Way::Fast));
+        self.each("pescrondilu_q15_plain_block", |t| t.q15_block(Way::Plain));
+        self.each("pescrondilu_matrix_f32", Calls::matrix_f32);
+        self.each("pescrondilu_matrix_q15", Calls::matrix_q15);
+    }
+
+    fn encoders(&mut self) {
+        self.each("pescrondilu_on_air", |t| {
+            let yes = pescrondilu_on_air(t.any_double(), t.near_float(0.0625));
+            t.put32(yes);
+        });
+        self.each("pescrondilu_nco_increment_for", |t| {
+            let i = pescrondilu_nco_increment_for(t.any_double(), t.near_double(192000.0));
+            t.put32(i.code);
+            t.put32(i.increment);
+        });
+        self.each("pescrondilu_nco_new", |t| {
+            let m = pescrondilu_nco_new(t.any_double(), t.near_double(192000.0));
+            t.put_nco_made(m);
+        });
+        self.each("pescrondilu_nco_from_increment", |t| {
+            let o = pescrondilu_nco_from_increment(t.any32());
+            t.put_nco(o);
+        });
+        self.each("pescrondilu_nco_set_frequency", |t| {
+            let o = t.any_nco();
+            let m = pescrondilu_nco_set_frequency(o, t.any_double(), t.near_double(192000.0));
+            t.put_nco_made(m);
+        });
+        self.each("pescrondilu_nco_set_phase", |t| {
+            let o = pescrondilu_nco_set_phase(t.any_nco(), t.any32());
+            t.put_nco(o);
+        });
+        self.each("pescrondilu_nco_advance", |t| {
+            let o = pescrondilu_nco_advance(t.any_nco(), t.any64() as usize);
+            t.put_nco(o);
+        });
+        self.each("pescrondilu_nco_reset", |t| {
+            let o = pescrondilu_nco_reset(t.any_nco());
+            t.put_nco(o);
+        });
+        self.each("pescrondilu_encode_new", |t| {
+            let m = pescrondilu_encode_new(
+                t.near_double(19000.0),
+                t.near_float(0.5),
+                t.near_float(0.0625),
+                t.near_double(192000.0),
+            );
+            t.put_encode_made(m);
+        });
+        self.each("pescrondilu_encode_set_pilot", |t| {
+            let m = pescrondilu_encode_set_pilot(t.any_encode(), t.any_float());
+            t.put_encode_made(m);
+        });
+        self.each("pescrondilu_encode_set_phase", |t| {
+            let e = pescrondilu_encode_set_phase(t.any_encode(), t.any32());
+            t.put_encode(e);
+        });
+        self.each("pescrondilu_encode_reset", |t| {
+            let e = pescrondilu_encode_reset(t.any_encode());
+            t.put_encode(e);
+        });
+        self.each("pescrondilu_encode_block", Calls::encode_block);
+        self.each("pescrondilu_encode_rds_new", |t| {
+            let m = pescrondilu_encode_rds_new(
+                t.near_double(19000.0),
+                t.near_float(0.5),
+                t.near_float(0.0625),
+                t.near_float(0.03125),
+                t.near_double(192000.0),
+            );
+            t.put_encode_rds_made(m);
+        });
+        self.each("pescrondilu_encode_rds_set_pilot", |t| {
+            let m = pescrondilu_encode_rds_set_pilot(t.any_encode_rds(), t.any_float());
+            t.put_encode_rds_made(m);
+        });
+        self.each("pescrondilu_encode_rds_set_rds", |t| {
+            let m = pescrondilu_encode_rds_set_rds(t.any_encode_rds(), t.any_float());
+            t.put_encode_rds_made(m);
+        });
+        self.each("pescrondilu_encode_rds_set_phase", |t| {
+            let e = pescrondilu_encode_rds_set_phase(t.any_encode_rds(), t.any32());
+            t.put_encode_rds(e);
+        });
+        self.each("pescrondilu_encode_rds_reset", |t| {
+            let e = pescrondilu_encode_rds_reset(t.any_encode_rds());
+            t.put_encode_rds(e);
+        });
+        self.each("pescrondilu_encode_rds_block", Calls::encode_rds_block);
+    }
+
+    fn numbers(&mut self) {
+        self.each("pescrondilu_sat16", |t| {
+            let y = pescrondilu_sat16(t.any_i64());
+            t.put16(y);
+        });
+        self.each("pescrondilu_round_shift", |t| {
+            let y = pescrondilu_round_shift(t.any_i64(), t.any32());
+            t.put64(y as u64);
+        });
+        self.each("pescrondilu_q15_product", |t| {
+            let y = pescrondilu_q15_product(t.any16(), t.any16());
+            t.put64(y as u64);
+        });
+        self.each("pescrondilu_q15_mul", |t| {
+            let y = pescrondilu_q15_mul(t.any16(), t.any16());
+            t.put16(y);
+        });
+        self.each("pescrondilu_q15_add_sat", |t| {
+            let y = pescrondilu_q15_add_sat(t.any16(), t.any16());
+            t.put16(y);
+        });
+        self.each("pescrondilu_q15_sub_sat", |t| {
+            let y = pescrondilu_q15_sub_sat(t.any16(), t.any16());
+            t.put16(y);
+        });
+        self.each("pescrondilu_low32", |t| {
+            let y = pescrondilu_low32(t.any_i64());
+            t.put32(y);
+        });
+        self.each("pescrondilu_phase_twice", |t| {
+            let y = pescrondilu_phase_twice(t.any32());
+            t.put32(y);
+        });
+        self.each("pescrondilu_phase_thrice", |t| {
+            let y = pescrondilu_phase_thrice(t.any32());
+            t.put32(y);
+        });
+        self.each("pescrondilu_floor_f64", |t| {
+            let y = pescrondilu_floor_f64(t.any_double());
+            t.put_double(y);
+        });
+        self.each("pescrondilu_half_even_f64", |t| {
+            let y = pescrondilu_half_even_f64(t.any_double());
+            t.put_double(y);
+        });
+        self.each("pescrondilu_f64_to_f32", |t| {
+            let y = pescrondilu_f64_to_f32(t.any_double());
+            t.put_float(y);
+        });
+        self.each("pescrondilu_i64_to_f64", |t| {
+            let y = pescrondilu_i64_to_f64(t.any_i64());
+            t.put_double(y);
+        });
+        self.each("pescrondilu_f64_to_i64", |t| {
+            let y = pescrondilu_f64_to_i64(t.any_double());
+            t.put64(y as u64);
+        });
+        self.each("pescrondilu_f32_to_f64", |t| {
+            let y = pescrondilu_f32_to_f64(t.any_float());
+            t.put_double(y);
+        });
+        self.each("pescrondilu_is_finite_f32", |t| {
+            let y = pescrondilu_is_finite_f32(t.any_float());
+            t.put_bool(y);
+        });
+        self.each("pescrondilu_is_finite_f64", |t| {
+            let y = pescrondilu_is_finite_f64(t.any_double());
+            t.put_bool(y);
+        });
+        self.each("pescrondilu_flush_denormal", |t| {
+            let y = pescrondilu_flush_denormal(t.any_float());
+            t.put_float(y);
+        });
+        self.each("pescrondilu_floor_scaled", |t| {
+            let y = pescrondilu_floor_scaled(t.any_double(), t.any_double());
+            t.put64(y as u64);
+        });
+        self.each("pescrondilu_q15_from_f64", |t| {
+            let y = pescrondilu_q15_from_f64(t.any_double());
+            t.put16(y);
+        });
+        self.each("pescrondilu_q14_from_f64", |t| {
+            let q = pescrondilu_q14_from_f64(t.near_double(-0.5));
+            t.put32(q.code);
+            t.put16(q.value);
+        });
+        self.each("pescrondilu_correction_plain", |t| {
+            let y = pescrondilu_correction_plain(t.any_float());
+            t.put32(y);
+        });
+        self.each("pescrondilu_correction_fast", |t| {
+            let y = pescrondilu_correction_fast(t.any_float());
+            t.put32(y);
+        });
+        self.each("pescrondilu_cos_f32", |t| {
+            let p = t.any32();
+            // SAFETY, here and below: the length is not above that of the slice
+            let y = unsafe { pescrondilu_cos_f32(t.table.as_ptr(), t.table_n(), p) };
+            t.put_float(y);
+        });
+        self.each("pescrondilu_interp_f32_pair", |t| {
+            let p = t.any32();
+            let pair = unsafe { pescrondilu_interp_f32_pair(t.table.as_ptr(), t.table_n(), p) };
+            t.put_float(pair.c);
+            t.put_float(pair.s);
+        });
+        self.each("pescrondilu_cos_q15", |t| {
+            let p = t.any32();
+            let y = unsafe { pescrondilu_cos_q15(t.table_q.as_ptr(), t.table_n(), p) };
+            t.put16(y);
+        });
+        self.each("pescrondilu_interp_q15", |t| {
+            let p = t.any32();
+            let y = unsafe { pescrondilu_interp_q15(t.table_q.as_ptr(), t.table_n(), p) };
+            t.put32(y as u32);
+        });
+    }
+}
+
+fn from_rust() -> String {
+    let mut calls = Calls::new();
+    calls.decoders();
+    calls.encoders();
+    calls.numbers();
+    calls.lines
+}
+
+#[test]
+fn c_and_rust_get_the_same_bits() {
+    let Some(cc) = cc("the agreement of C and Rust") else {
+        return;
+    };
+    let source = root().join("host/pescrondilu-sys/tests/header/agreement.c");
+    let rust = from_rust();
+    for option in ["-O0", "-O2"] {
+        let made = program(&cc, &source, &[option], &format!("agreement{option}"));
+        let c = run(&mut Command::new(made));
+        for (i, (in_c, in_rust)) in c.lines().zip(rust.lines()).enumerate() {
+            assert_eq!(in_c, in_rust, "line {} (C first, {option})", i + 1);
+        }
+        assert_eq!(c.lines().count(), rust.lines().count());
+    }
+}
+
+/// The first word after a function's name, which is the code where there is one, by function.
+fn first_words(lines: &str) -> BTreeMap<&str, BTreeSet<&str>> {
+    let mut found: BTreeMap<&str, BTreeSet<&str>> = BTreeMap::new();
+    for line in lines.lines() {
+        let mut words = line.split(' ');
+        let name = words.next().expect("a line has a name");
+        let word = words.next().expect("a line has an answer");
+        found.entry(name).or_default().insert(word);
+    }
+    found
+}
+
+/// The comparison is of use only if it calls every function, and blocks are both carried out and
+/// refused for each of their causes.
+#[test]
+fn the_calls_cover_the_library() {
+    let lines = from_rust();
+    let found = first_words(&lines);
+    let declared = header().functions;
+    assert!(found.keys().eq(declared.keys()), "{:?}", found.keys());
+
+    let codes = |name: &str| -> Vec<u32> {
+        let words = found[name].iter();
+        words
+            .map(|w| u32::from_str_radix(w, 16).expect("hex"))
+            .collect()
+    };
+    for name in declared.keys() {
+        let expected: &[u32] = match name.as_str() {
+            "pescrondilu_q15_block" | "pescrondilu_q15_plain_block" => &[0, 100, 109, 110, 111],
+            "pescrondilu_matrix_f32" | "pescrondilu_matrix_q15" => &[0, 110, 111],
+            _ if name.ends_with("_block") => &[0, 109, 110, 111],
+            "pescrondilu_encode_set_pilot" | "pescrondilu_encode_rds_set_pilot" => &[0, 114],
+            "pescrondilu_encode_rds_set_rds" => &[0, 116],
+            "pescrondilu_on_air" => &[0, 1],
+            "pescrondilu_q14_from_f64" => &[0, 118],
+            _ if name.ends_with("_new") => {
+                let codes = codes(name);
+                assert!(codes[0] == 0 && codes.len() > 2, "{name}: {codes:?}");
+                continue;
+            }
+            _ => continue,
+        };
+        assert_eq!(codes(name), expected, "{name}");
+    }
+}

@@ -1,0 +1,471 @@
+/*
+ * The proved FM stereo core: pilot loop with stereo decision, matrix, multiplex encoders,
+ * oscillator and on-air verdict, in libpescrondilu.a. x86-64 Linux, System V calls; C99 or C++.
+ *
+ *     cc program.c -Iinclude -Ltarget/staticlib -lpescrondilu -lm
+ *
+ * (The library needs no other one; -lm is for a program that makes its table by cos.)
+ * host/c/receiver.c is an example.
+ *
+ * What the caller owes
+ *   - Each pointer is aligned and leads to as many elements as the length after it says. It is
+ *     not NULL, even where the length is 0.
+ *   - An output overlaps no other argument of the call. So nothing is worked in place. Inputs may
+ *     overlap each other.
+ *   - The floating-point mode is the one a C program starts in: rounding to nearest, no traps,
+ *     very small numbers kept. (-ffast-math at linking changes it, and with it the results.)
+ *
+ * What the caller gets
+ *   - Every call ends. Nothing is allocated, locked, or kept from one call to the next: all that a
+ *     decoder or an encoder remembers is in its record, which the caller holds.
+ *   - Records go in and out by value. A call changes no record that it is handed; the next one
+ *     comes back: d = pescrondilu_f32_reset(d);
+ *   - Calls on different records may run on different threads, with one table for all of them.
+ *   - Any bits are taken in records, parameters, tables and samples, NaN and infinities included.
+ *     A NaN that comes back may have other bits than the one that went in.
+ *   - A switch (stereo, enabled) is a uint32_t, off at 0 and on at anything else. It comes back
+ *     as 0 or 1.
+ *   - A record's read-outs are its fields. The read call gives a decoder's in the same units for
+ *     both formats.
+ *
+ * Refusals
+ *   A call that may be refused answers with a code: 0 is accepted, and PESCRONDILU_REFUSED plus
+ *   the number of the cause is refused. The first cause in force wins, in the order that the
+ *   function's text names them.
+ *
+ *   No.  Code  Cause
+ *    0   100   the Q15 record is unfit (only one that was filled in by hand can be)
+ *    1   101   the rate is not finite, or not above 0
+ *    2   102   decoder: the pilot frequency is not finite, not above 0, or not below rate / 4
+ *    3   103   decoder: the natural frequency is not finite, not above 0, or above pilot / 100
+ *    4   104   decoder: the pilot level is not finite, not above 0, or above 1
+ *    5   105   decoder: the lock coefficient is NaN, below 0 or above 1
+ *    6   106   decoder: one of kp, ki, imax, beta, on, off becomes 0 or not finite as a float
+ *    7   107   Q15 decoder: a value or a guard exceeds int64_t
+ *    8   108   Q15 decoder: ki or beta becomes 0
+ *    9   109   the table's length is not PESCRONDILU_TABLE_LENGTH
+ *   10   110   a further input's length differs from the first input's
+ *   11   111   an output's length differs from the first input's
+ *   12   112   encoder: the pilot frequency is not in 18000 to 20000 Hz
+ *   13   113   encoder: the main gain is not in 0 to 1
+ *   14   114   encoder: the pilot amplitude is not in 0 to 0.2
+ *   15   115   encoder: the rate is below 120000 Hz
+ *   16   116   encoder: the RDS level is not in 0 to 0.2
+ *   17   117   oscillator: frequency / rate is not finite
+ *   18   118   the value is outside Q14
+ *
+ *   What is left: a refused block gives its record back as it was (the switches as 0 or 1) and
+ *   writes to no output. A refused set call gives the record back as it was. A refused
+ *   construction gives zeros.
+ */
+#ifndef PESCRONDILU_H
+#define PESCRONDILU_H
+
+#include <stdbool.h>
+#include <stddef.h>
+#include <stdint.h>
+
+#if !defined(__x86_64__) || defined(__ILP32__) || !defined(__linux__)
+#error "libpescrondilu.a is for x86-64 Linux with 64-bit pointers"
+#endif
+
+#ifdef __cplusplus
+#define PESCRONDILU_RESTRICT __restrict
+extern "C" {
+#else
+#define PESCRONDILU_RESTRICT restrict
+#endif
+
+/* The entries of a table: entry i is cos(2 pi i / 4096), and the last one is the first again. */
+#define PESCRONDILU_TABLE_LENGTH 4097
+
+/* A code of 0 is accepted; this plus the number of the cause is refused. */
+#define PESCRONDILU_REFUSED 100
+
+/* A phase is a uint32_t, one turn being 2^32. This is a quarter of a turn. */
+#define PESCRONDILU_QUARTER_TURN UINT32_C(1073741824)
+
+/*
+ * What a block answers. At the causes 9, 10 and 11 expected is the length that was asked for and
+ * got the one that was given; otherwise both are 0.
+ */
+typedef struct pescrondilu_answer {
+    uint32_t code;
+    size_t expected;
+    size_t got;
+} pescrondilu_answer;
+
+/* ---- What a receiver calls: decoders, matrix, verdict ---------------------------------------- */
+
+/*
+ * A decoder in float: the gains, the integrator, the lock level with its two thresholds, the step
+ * and the phase, and the switches. The integrator and its limit are in turns a sample.
+ */
+typedef struct pescrondilu_f32 {
+    float kp;
+    float ki;
+    float imax;
+    float beta;
+    float on;
+    float off;
+    float integ;
+    float level;
+    uint32_t step0;
+    uint32_t phase;
+    uint32_t stereo;
+    uint32_t enabled;
+} pescrondilu_f32;
+
+/*
+ * The same in fixed point: kp and ki in units of 2^-34, the integrator and its limit in 2^-64
+ * turns a sample, beta in 2^-31, the level and its thresholds in 2^-61.
+ */
+typedef struct pescrondilu_q15 {
+    int64_t kp;
+    int64_t ki;
+    int64_t imax;
+    int64_t beta;
+    int64_t on;
+    int64_t off;
+    int64_t integ;
+    int64_t level;
+    uint32_t step0;
+    uint32_t phase;
+    uint32_t stereo;
+    uint32_t enabled;
+} pescrondilu_q15;
+
+/* A new decoder; zeros where the code is not 0. */
+typedef struct pescrondilu_f32_made {
+    uint32_t code;
+    pescrondilu_f32 decoder;
+} pescrondilu_f32_made;
+
+typedef struct pescrondilu_q15_made {
+    uint32_t code;
+    pescrondilu_q15 decoder;
+} pescrondilu_q15_made;
+
+/* What a block answers, and the decoder after it. */
+typedef struct pescrondilu_f32_reply {
+    pescrondilu_answer answer;
+    pescrondilu_f32 decoder;
+} pescrondilu_f32_reply;
+
+typedef struct pescrondilu_q15_reply {
+    pescrondilu_answer answer;
+    pescrondilu_q15 decoder;
+} pescrondilu_q15_reply;
+
+/*
+ * A decoder's read-outs, in the same units for both formats: integrator and limit in turns a
+ * sample, and the lock level, which settles at half the pilot's amplitude.
+ */
+typedef struct pescrondilu_readout {
+    double integrator;
+    double integrator_limit;
+    double lock_level;
+    uint32_t phase;
+    uint32_t stereo;
+    uint32_t enabled;
+} pescrondilu_readout;
+
+/*
+ * Makes a decoder: the pilot's and the loop's natural frequency in Hz, the amplitude expected of
+ * the pilot, the lock coefficient (1 - exp(-1 / (rate * seconds)) for a level with that time
+ * constant), and the rate in samples a second. It begins with phase, integrator and level 0, in
+ * mono, enabled. Causes 1 to 6.
+ */
+pescrondilu_f32_made pescrondilu_f32_new(double pilot, double natural, double level, double beta,
+                                         double rate);
+
+/* The same in fixed point. Causes 1 to 8. */
+pescrondilu_q15_made pescrondilu_q15_new(double pilot, double natural, double level, double beta,
+                                         double rate);
+
+/* Lets the difference be heard while the decoder says stereo. Never refused. */
+pescrondilu_f32 pescrondilu_f32_enable(pescrondilu_f32 d);
+pescrondilu_q15 pescrondilu_q15_enable(pescrondilu_q15 d);
+
+/* Makes the difference 0. The loop and the stereo decision go on. Never refused. */
+pescrondilu_f32 pescrondilu_f32_disable(pescrondilu_f32 d);
+pescrondilu_q15 pescrondilu_q15_disable(pescrondilu_q15 d);
+
+/*
+ * Sets phase, integrator and level to 0 and the decision to mono; gains and enabled stay. Never
+ * refused. A float level can become NaN, and then holds the decision until this is called.
+ */
+pescrondilu_f32 pescrondilu_f32_reset(pescrondilu_f32 d);
+pescrondilu_q15 pescrondilu_q15_reset(pescrondilu_q15 d);
+
+/* Reads a decoder. Never refused. */
+pescrondilu_readout pescrondilu_f32_read(pescrondilu_f32 d);
+pescrondilu_readout pescrondilu_q15_read(pescrondilu_q15 d);
+
+/*
+ * Decodes a block, the fast way. mpx is the multiplex, and pilot the same signal after the
+ * caller's pilot filter, in step with it. sum becomes mpx. difference becomes mpx times the sine
+ * of twice the phase while the decoder says stereo and is enabled, else 0. The caller filters both
+ * to the audio band. Causes 9; 10 for pilot; 11 for sum, then for difference.
+ */
+pescrondilu_f32_reply pescrondilu_f32_block(
+    pescrondilu_f32 d, const float *table, size_t table_n, const float *mpx, size_t mpx_n,
+    const float *pilot, size_t pilot_n, float *PESCRONDILU_RESTRICT sum, size_t sum_n,
+    float *PESCRONDILU_RESTRICT difference, size_t difference_n);
+
+/* The same in fixed point; a sample of 32768 would be 1. Causes 0, then as in float. */
+pescrondilu_q15_reply pescrondilu_q15_block(
+    pescrondilu_q15 d, const int16_t *table, size_t table_n, const int16_t *mpx, size_t mpx_n,
+    const int16_t *pilot, size_t pilot_n, int16_t *PESCRONDILU_RESTRICT sum, size_t sum_n,
+    int16_t *PESCRONDILU_RESTRICT difference, size_t difference_n);
+
+/* The same blocks, the plain way: equal answers, outputs and records, and slower. Same causes. */
+pescrondilu_f32_reply pescrondilu_f32_plain_block(
+    pescrondilu_f32 d, const float *table, size_t table_n, const float *mpx, size_t mpx_n,
+    const float *pilot, size_t pilot_n, float *PESCRONDILU_RESTRICT sum, size_t sum_n,
+    float *PESCRONDILU_RESTRICT difference, size_t difference_n);
+pescrondilu_q15_reply pescrondilu_q15_plain_block(
+    pescrondilu_q15 d, const int16_t *table, size_t table_n, const int16_t *mpx, size_t mpx_n,
+    const int16_t *pilot, size_t pilot_n, int16_t *PESCRONDILU_RESTRICT sum, size_t sum_n,
+    int16_t *PESCRONDILU_RESTRICT difference, size_t difference_n);
+
+/*
+ * Sum and difference to left and right: sum + 2 difference and sum - 2 difference, in fixed point
+ * limited to int16_t. Causes 10 for difference; 11 for left, then for right.
+ */
+pescrondilu_answer pescrondilu_matrix_f32(const float *sum, size_t sum_n, const float *difference,
+                                          size_t difference_n, float *PESCRONDILU_RESTRICT left,
+                                          size_t left_n, float *PESCRONDILU_RESTRICT right,
+                                          size_t right_n);
+pescrondilu_answer pescrondilu_matrix_q15(const int16_t *sum, size_t sum_n,
+                                          const int16_t *difference, size_t difference_n,
+                                          int16_t *PESCRONDILU_RESTRICT left, size_t left_n,
+                                          int16_t *PESCRONDILU_RESTRICT right, size_t right_n);
+
+/*
+ * The on-air verdict, for receiver and exciter: 1 where the pilot's amplitude is in 0.08f to 0.1f,
+ * both included (ITU-R BS.450), else 0. The frequency has no part in it. Never refused.
+ */
+uint32_t pescrondilu_on_air(double frequency, float amplitude);
+
+/* ---- What an exciter calls: oscillator, encoders; and the verdict above ---------------------- */
+
+/* An oscillator: the phase before the next sample, and what each sample adds to it. */
+typedef struct pescrondilu_nco {
+    uint32_t phase;
+    uint32_t inc;
+} pescrondilu_nco;
+
+/* An increment; 0 where the code is not 0. */
+typedef struct pescrondilu_increment {
+    uint32_t code;
+    uint32_t increment;
+} pescrondilu_increment;
+
+/* A new or changed oscillator. */
+typedef struct pescrondilu_nco_made {
+    uint32_t code;
+    pescrondilu_nco nco;
+} pescrondilu_nco_made;
+
+/* The encoder: the pilot's oscillator, the gain of sum and difference, the pilot's amplitude. */
+typedef struct pescrondilu_encode {
+    pescrondilu_nco nco;
+    float main;
+    float pilot;
+} pescrondilu_encode;
+
+/* The encoder with RDS: the stereo part, and the level of RDS. */
+typedef struct pescrondilu_encode_rds {
+    pescrondilu_encode enc;
+    float rds;
+} pescrondilu_encode_rds;
+
+/* A new or changed encoder. */
+typedef struct pescrondilu_encode_made {
+    uint32_t code;
+    pescrondilu_encode encoder;
+} pescrondilu_encode_made;
+
+typedef struct pescrondilu_encode_rds_made {
+    uint32_t code;
+    pescrondilu_encode_rds encoder;
+} pescrondilu_encode_rds_made;
+
+/* What a block answers, and the encoder after it. */
+typedef struct pescrondilu_encode_reply {
+    pescrondilu_answer answer;
+    pescrondilu_encode encoder;
+} pescrondilu_encode_reply;
+
+typedef struct pescrondilu_encode_rds_reply {
+    pescrondilu_answer answer;
+    pescrondilu_encode_rds encoder;
+} pescrondilu_encode_rds_reply;
+
+/* The increment of a frequency at a rate, to the nearest 2^-32 turn. Causes 1, 17. */
+pescrondilu_increment pescrondilu_nco_increment_for(double freq, double rate);
+
+/* An oscillator with that increment, at phase 0. Causes 1, 17. */
+pescrondilu_nco_made pescrondilu_nco_new(double freq, double rate);
+
+/* An oscillator with this increment, at phase 0. Never refused. */
+pescrondilu_nco pescrondilu_nco_from_increment(uint32_t inc);
+
+/* Sets the increment by a frequency and a rate; the phase stays. Causes 1, 17. */
+pescrondilu_nco_made pescrondilu_nco_set_frequency(pescrondilu_nco o, double freq, double rate);
+
+/* Sets the phase. Never refused. */
+pescrondilu_nco pescrondilu_nco_set_phase(pescrondilu_nco o, uint32_t p);
+
+/* Goes n samples on, modulo one turn. Never refused. */
+pescrondilu_nco pescrondilu_nco_advance(pescrondilu_nco o, size_t n);
+
+/* Sets the phase to 0. Never refused. */
+pescrondilu_nco pescrondilu_nco_reset(pescrondilu_nco o);
+
+/*
+ * Makes an encoder at phase 0: the pilot's frequency in Hz, the gain of sum and difference, the
+ * pilot's amplitude, the rate in samples a second. Causes 1, 12, 13, 14, 15.
+ */
+pescrondilu_encode_made pescrondilu_encode_new(double frequency, float main_gain, float pilot,
+                                               double rate);
+
+/* Sets the pilot's amplitude. Cause 14. */
+pescrondilu_encode_made pescrondilu_encode_set_pilot(pescrondilu_encode e, float pilot);
+
+/* Sets the phase. Never refused. */
+pescrondilu_encode pescrondilu_encode_set_phase(pescrondilu_encode e, uint32_t p);
+
+/* Sets the phase to 0. Never refused. */
+pescrondilu_encode pescrondilu_encode_reset(pescrondilu_encode e);
+
+/*
+ * Encodes a block: main times half the sum, plus main times half the difference on the sine of
+ * twice the phase, plus pilot times the sine of the phase. Causes 9; 10 for right; 11 for output.
+ */
+pescrondilu_encode_reply pescrondilu_encode_block(pescrondilu_encode e, const float *table,
+                                                  size_t table_n, const float *left, size_t left_n,
+                                                  const float *right, size_t right_n,
+                                                  float *PESCRONDILU_RESTRICT output,
+                                                  size_t output_n);
+
+/* Makes an encoder with RDS, at phase 0. Causes 1, 12, 13, 14, 15, 16. */
+pescrondilu_encode_rds_made pescrondilu_encode_rds_new(double frequency, float main_gain,
+                                                       float pilot, float rds, double rate);
+
+/* Sets the pilot's amplitude. Cause 14. */
+pescrondilu_encode_rds_made pescrondilu_encode_rds_set_pilot(pescrondilu_encode_rds e,
+                                                             float pilot);
+
+/* Sets the level of RDS. Cause 16. */
+pescrondilu_encode_rds_made pescrondilu_encode_rds_set_rds(pescrondilu_encode_rds e, float rds);
+
+/* Sets the phase. Never refused. */
+pescrondilu_encode_rds pescrondilu_encode_rds_set_phase(pescrondilu_encode_rds e, uint32_t p);
+
+/* Sets the phase to 0. Never refused. */
+pescrondilu_encode_rds pescrondilu_encode_rds_reset(pescrondilu_encode_rds e);
+
+/*
+ * Encodes a block as above and adds the RDS baseband, times its level, on the sine of three times
+ * the phase. Causes 9; 10 for right, then for rds; 11 for output.
+ */
+pescrondilu_encode_rds_reply pescrondilu_encode_rds_block(
+    pescrondilu_encode_rds e, const float *table, size_t table_n, const float *left, size_t left_n,
+    const float *right, size_t right_n, const float *rds, size_t rds_n,
+    float *PESCRONDILU_RESTRICT output, size_t output_n);
+
+/* ---- Number helpers: what the calls above are made of, for comparison with the original ------ */
+
+/* The cosine and the sine of a phase. */
+typedef struct pescrondilu_pair {
+    float c;
+    float s;
+} pescrondilu_pair;
+
+/* A Q14 number; 0 where the code is not 0. */
+typedef struct pescrondilu_q14 {
+    uint32_t code;
+    int16_t value;
+} pescrondilu_q14;
+
+/* x limited to -32768 to 32767. */
+int16_t pescrondilu_sat16(int64_t x);
+
+/*
+ * x / 2^s, a half rounded up: 2^(s-1) is added, stopping at the largest int64_t, and the sum is
+ * divided, rounding down. s = 0 gives x. s of 63 or more gives -1 for an x below 0, else 0.
+ */
+int64_t pescrondilu_round_shift(int64_t x, uint32_t s);
+
+/* The exact product of two Q15 numbers. */
+int64_t pescrondilu_q15_product(int16_t a, int16_t b);
+
+/* The product, sum and difference of two Q15 numbers, limited; the product rounded before. */
+int16_t pescrondilu_q15_mul(int16_t a, int16_t b);
+int16_t pescrondilu_q15_add_sat(int16_t a, int16_t b);
+int16_t pescrondilu_q15_sub_sat(int16_t a, int16_t b);
+
+/* x modulo 2^32. */
+uint32_t pescrondilu_low32(int64_t x);
+
+/* Twice and three times a phase, modulo one turn. */
+uint32_t pescrondilu_phase_twice(uint32_t p);
+uint32_t pescrondilu_phase_thrice(uint32_t p);
+
+/* The greatest whole number that is not above x. */
+double pescrondilu_floor_f64(double x);
+
+/* The whole number nearest to x, a half to the even one. */
+double pescrondilu_half_even_f64(double x);
+
+/* The nearest float, a tie to the even one. */
+float pescrondilu_f64_to_f32(double x);
+
+/* The nearest double, a tie to the even one. */
+double pescrondilu_i64_to_f64(int64_t n);
+
+/* x without its fraction, stopping at the ends of int64_t; a NaN gives 0. */
+int64_t pescrondilu_f64_to_i64(double x);
+
+/* x, which every double holds. */
+double pescrondilu_f32_to_f64(float x);
+
+/* Whether x is neither infinite nor NaN. */
+bool pescrondilu_is_finite_f32(float x);
+bool pescrondilu_is_finite_f64(double x);
+
+/* Plus 0 where x is below 1e-30f in magnitude, else x; a NaN stays. */
+float pescrondilu_flush_denormal(float x);
+
+/* floor(x times scale + 0.5), stopping at the ends of int64_t; a NaN gives 0. */
+int64_t pescrondilu_floor_scaled(double x, double scale);
+
+/* x as a Q15 number, rounded and limited; a NaN gives 0. */
+int16_t pescrondilu_q15_from_f64(double x);
+
+/* x as a Q14 number, rounded. Cause 18, also for a NaN. */
+pescrondilu_q14 pescrondilu_q14_from_f64(double x);
+
+/*
+ * The phase correction: floor(f times 2^32 + 0.5), stopping at the ends of int64_t, modulo 2^32; a
+ * NaN gives 0. Both ways are equal.
+ */
+uint32_t pescrondilu_correction_plain(float f);
+uint32_t pescrondilu_correction_fast(float f);
+
+/*
+ * The cosine of a phase by the table, n being its length; the pair has the sine too. The two in
+ * fixed point are equal. Where a table lacks the entry, the answer is 0.
+ */
+float pescrondilu_cos_f32(const float *table, size_t n, uint32_t p);
+pescrondilu_pair pescrondilu_interp_f32_pair(const float *table, size_t n, uint32_t p);
+int16_t pescrondilu_cos_q15(const int16_t *table, size_t n, uint32_t p);
+int32_t pescrondilu_interp_q15(const int16_t *table, size_t n, uint32_t p);
+
+#ifdef __cplusplus
+}
+#endif
+
+#endif
