@@ -3,6 +3,7 @@ use mathlib.Core.Path.{_≡_, sym, ap, _∙_}
 use native.Mathlib.Omega.{arith}
 use native.Mathlib.Nat.{add-mul, mul-right-comm, mul-le-mul, div-add-mod'}
 use borrow.Author.Needs.{needs}
+use Rattle.oscillator.specs.Oscillator.{phaseSet}
 use Rattle.oscillator.proofs.nco.Nco.advance.Statement.{statement}
 use Rattle.oscillator.proofs.nco.Nco.advance.Tie as tie
 
@@ -29,7 +30,9 @@ mul-added : tie.Need-mul-added
 mul-added c = record { fits = small (c .before .args .n) (c .before .args .self .inc) (c .struct-known .given .1 .0 .fits) }
 
 returns : tie.Need-returns
-returns c = let a = c .before .before .args in rw (c .wrapping-add-u32 .ensures, on (a .self .phase) (a .n) (a .self .inc))
+returns c =
+    let a = c .before .before .args in
+    ap (λ (p : ℕ). phaseSet (a .self) p) (c .wrapping-add-u32 .ensures ∙ on (a .self .phase) (a .n) (a .self .inc))
 
 pub advance-spec : {M : Type 1} → statement M
 advance-spec = tie.close (tie.spec (λ c. search needs) mul-added (λ c. search needs) (λ c κs. search needs) returns)
