@@ -9,7 +9,7 @@ use pescrondilu::kernels::stereo::{
 };
 use pescrondilu::{C32, ComplexSample, Proved, Q15, tables};
 
-const LENGTHS: [usize; 9] = [0, 1, 2, 63, 64, 65, 128, 1000, 4096];
+const LENGTHS: [usize; 12] = [0, 1, 2, 7, 8, 9, 63, 64, 65, 128, 1000, 4096];
 
 fn pairs<T: Format>(re: &[T], im: &[T]) -> Vec<T::Complex> {
     let pair = |(re, im): (&T, &T)| <T::Complex as ComplexSample>::new(*re, *im);

@@ -1,0 +1,21 @@
+//! The original's stereo files, unchanged and by path, between the oracle's stand-ins for the files
+//! that are not at hand. `proved` is the only module that adopting the core adds.
+
+#[path = "../../../../oracle/core/src/error.rs"]
+pub mod error;
+#[path = "../../../../oracle/core/src/fallback.rs"]
+pub mod fallback;
+pub mod kernels;
+pub mod tables;
+#[path = "../../../../oracle/core/src/timing.rs"]
+pub mod timing;
+
+#[path = "../../proved.rs"]
+mod proved;
+pub use proved::Proved;
+
+// num, types
+include!(concat!(env!("OUT_DIR"), "/root.rs"));
+
+/// The fast implementation.
+pub struct Fallback;
