@@ -15,6 +15,8 @@ use crate::format::{
 
 const SESSIONS: usize = 300;
 const BLOCKS: usize = 12;
+/// Samples after which the loop is in lock.
+const LOCK: usize = 50_000;
 const LENGTHS: [usize; 8] = [0, 1, 2, 63, 64, 65, 300, 4096];
 
 /// An answer in one form. The words of a message are not compared: they differ.
@@ -74,10 +76,9 @@ struct Decoders<F: Format> {
 
 impl<F: Format> Decoders<F> {
     /// Constructed on both sides, with the same coefficients; none where both refuse.
-    fn new(random: &mut Random) -> Option<Self> {
-        let rate = [192_000.0, 480_000.0, 96_000.5][random.below(3)];
+    fn new(random: &mut Random, rate: f64) -> Option<Self> {
         let natural = [20.0, 50.0, 190.0, 250.0][random.below(4)];
-        let level = [0.1, 0.0625, 1.0, 1.5][random.below(4)];
+        let level = [0.1, 0.0625, 0.12, 1.5][random.below(4)];
         let theirs = original::StereoPllState::new(19_000.0, natural, level, TheirRate(rate));
         let rate = Rate::from_f64(rate).expect("a good rate");
         let slices = ours::StereoPllState::<F>::new(19_000.0, natural, level, rate);
@@ -156,20 +157,27 @@ fn samples<F: Format>(random: &mut Random, n: usize, any: bool) -> Vec<F> {
     (0..n).map(|_| one()).collect()
 }
 
-/// A sine that the loop locks to, or any bits; some of it not finite.
-fn pilot<F: Format>(random: &mut Random, n: usize) -> Vec<F> {
-    let kind = random.below(4);
-    if kind == 0 {
-        return samples(random, n, true);
-    }
-    let turns = |i: usize| (i as f64 * 19_000.0 / 192_000.0).fract();
+/// A pilot that the loop locks to, from some sample on.
+fn sine<F: Format>(rate: f64, from: usize, n: usize) -> Vec<F> {
+    let turns = |i: usize| (i as f64 * 19_000.0 / rate).fract();
     let sine = |i| (turns(i) * std::f64::consts::TAU).sin() * 0.1;
-    let mut pilot: Vec<F> = (0..n).map(|i| F::from_f64_round(sine(i))).collect();
-    if kind == 1 && n > 0 {
-        let from = random.below(n);
-        pilot[from..].fill(F::from_f64_round(f64::NAN));
-    }
+    let samples = from..from + n;
+    samples.map(|i| F::from_f64_round(sine(i))).collect()
+}
+
+/// The pilot, from some sample on not finite.
+fn burst<F: Format>(random: &mut Random, mut pilot: Vec<F>) -> Vec<F> {
+    let from = random.below(pilot.len() + 1);
+    pilot[from..].fill(F::from_f64_round(f64::NAN));
     pilot
+}
+
+/// A burst, or any bits.
+fn odd<F: Format>(random: &mut Random, pilot: Vec<F>) -> Vec<F> {
+    match random.below(4) {
+        0 => samples(random, pilot.len(), true),
+        _ => burst(random, pilot),
+    }
 }
 
 /// One length in eight is wrong.
@@ -181,28 +189,38 @@ fn damaged(random: &mut Random, n: usize) -> usize {
     }
 }
 
-fn decoders<F: Format>(seed: u64) -> usize {
+/// How many calls agree, and how many of them end in stereo.
+fn decoders<F: Format>(seed: u64) -> (usize, usize) {
     let mut random = Random(seed);
-    let mut calls = 0;
-    for _ in 0..SESSIONS {
-        let Some(mut decoders) = Decoders::<F>::new(&mut random) else {
+    let (mut calls, mut stereo) = (0, 0);
+    for session in 0..SESSIONS {
+        let rate = [192_000.0, 480_000.0, 96_000.5][random.below(3)];
+        let Some(mut decoders) = Decoders::<F>::new(&mut random, rate) else {
             continue;
         };
-        for _ in 0..BLOCKS {
-            let n = LENGTHS[random.below(LENGTHS.len())];
+        let mut at = 0;
+        for block in 0..BLOCKS {
+            let n = match block {
+                0 => LOCK,
+                _ => LENGTHS[random.below(LENGTHS.len())],
+            };
             let any = random.below(4) == 0;
             let mpx = samples(&mut random, n, any);
             let pilot_n = damaged(&mut random, n);
-            let pilot = pilot(&mut random, pilot_n);
+            let mut pilot = sine(rate, at, pilot_n);
+            if session % 2 == 0 && random.below(4) == 0 {
+                pilot = odd(&mut random, pilot);
+            }
             let output_n = damaged(&mut random, n);
             decoders.block(&mpx, &pilot, output_n);
             decoders.agree();
+            (at, calls) = (at + n, calls + 1);
+            stereo += usize::from(decoders.fallback.is_stereo());
             decoders.set(&mut random);
             decoders.agree();
-            calls += 1;
         }
     }
-    calls
+    (calls, stereo)
 }
 
 fn matrices<F: Format>(seed: u64) -> usize {
@@ -286,9 +304,41 @@ fn encoders(seed: u64) -> usize {
     SESSIONS
 }
 
+/// A receiver's stage before and after the change of the crate's name.
+fn stages() -> (usize, usize) {
+    let mut before = crate::before::Stage::new(192_000).expect("a good rate");
+    let mut after = crate::after::Stage::new(192_000).expect("a good rate");
+    let mut random = Random(6);
+    let (mut at, mut stereo) = (0, 0);
+    for call in 0..SESSIONS {
+        let n = LENGTHS[random.below(LENGTHS.len())];
+        let mpx = samples::<f32>(&mut random, n, false);
+        let mut pilot = sine(192_000.0, at, n);
+        if call % 5 == 4 {
+            pilot = burst(&mut random, pilot);
+        }
+        at += n;
+        let want = before.block(&mpx, &pilot).expect("equal lengths");
+        let got = after.block(&mpx, &pilot).expect("equal lengths");
+        assert_eq!(pair_bits::<f32>(got), their_pair_bits::<f32>(want));
+        assert_eq!(after.lamp(), before.lamp());
+        stereo += usize::from(after.lamp());
+    }
+    let said = before.block(&[0.0; 2], &[0.0]).map(|_| ());
+    let want = their_answer(said);
+    let said = after.block(&[0.0; 2], &[0.0]).map(|_| ());
+    assert_eq!(answer(said), want);
+    (SESSIONS + 1, stereo)
+}
+
 pub fn run() -> ExitCode {
-    println!("decoder f32: {} calls agree", decoders::<f32>(1));
-    println!("decoder Q15: {} calls agree", decoders::<Q15>(2));
+    for (what, (calls, stereo)) in [
+        ("decoder f32", decoders::<f32>(1)),
+        ("decoder Q15", decoders::<Q15>(2)),
+        ("a stage before and after", stages()),
+    ] {
+        println!("{what}: {calls} calls agree, {stereo} of them end in stereo");
+    }
     println!("matrix f32: {} calls agree", matrices::<f32>(3));
     println!("matrix Q15: {} calls agree", matrices::<Q15>(4));
     println!("encoders: {} calls agree", encoders(5));

@@ -6,6 +6,18 @@ mod compare;
 mod format;
 mod time;
 
+/// The stage by sdrk.
+mod before {
+    use sdrk_core as sdr;
+    include!("stage.rs");
+}
+
+/// The same text by this crate.
+mod after {
+    use pescrondilu as sdr;
+    include!("stage.rs");
+}
+
 use std::process::ExitCode;
 
 use sdrk_core::tables::{COS_F32, COS_Q15};

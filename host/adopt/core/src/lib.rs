@@ -1,5 +1,5 @@
-//! The original's stereo files, unchanged and by path, between the oracle's stand-ins for the files
-//! that are not at hand. `proved` is the only module that adopting the core adds.
+//! The original's stereo files, unchanged and by path, between stand-ins for the files that are not
+//! at hand. `proved` is the only module that adopting the core adds.
 
 #[path = "../../../../oracle/core/src/error.rs"]
 pub mod error;
@@ -7,7 +7,6 @@ pub mod error;
 pub mod fallback;
 pub mod kernels;
 pub mod tables;
-#[path = "../../../../oracle/core/src/timing.rs"]
 pub mod timing;
 
 #[path = "../../proved.rs"]
@@ -16,6 +15,10 @@ pub use proved::Proved;
 
 // num, types
 include!(concat!(env!("OUT_DIR"), "/root.rs"));
+
+pub use error::{Error, Result};
+pub use timing::Rate;
+pub use types::{C32, CQ15, ComplexSample, Q15, RealSample};
 
 /// The fast implementation.
 pub struct Fallback;
