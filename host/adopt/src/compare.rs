@@ -3,6 +3,7 @@
 
 use std::process::ExitCode;
 
+use bytemuck::{cast_slice, cast_slice_mut};
 use pescrondilu::kernels::stereo::{self as ours, StereoPll as _};
 use pescrondilu::{C32, Error, Proved, Q15, Rate};
 use sdrk_core::error::Error as TheirError;
@@ -331,6 +332,36 @@ fn stages() -> (usize, usize) {
     (SESSIONS + 1, stereo)
 }
 
+/// A receiver that stays with sdrk for all else: its own slices of Q15 go to the crate's decoder
+/// without a copy.
+fn mixed() -> usize {
+    let rate = TheirRate(192_000.0);
+    let made = original::StereoPllState::new(19_000.0, 20.0, 0.1, rate);
+    let mut fallback = made.expect("good arguments");
+    let rate = Rate::from_f64(rate.as_f64()).expect("a good rate");
+    let made = ours::StereoPllState::<Q15>::new(19_000.0, 20.0, 0.1, rate);
+    let mut state = made.expect("good arguments");
+    let mut random = Random(7);
+    let mpx = theirs(&samples::<Q15>(&mut random, LOCK, false));
+    let pilot = theirs(&sine::<Q15>(192_000.0, 0, LOCK));
+    let mut output = vec![sdrk_core::CQ15::default(); LOCK];
+    let said = Q15::FALLBACK.stereo_pll(&mut fallback, &mpx, &pilot, &mut output);
+    assert_eq!(said, Ok(()));
+
+    let [mut sum, mut difference] = [(); 2].map(|()| vec![sdrk_core::Q15(0); LOCK]);
+    let said = state.process(
+        Q15::from_i16_slice(cast_slice(&mpx)),
+        Q15::from_i16_slice(cast_slice(&pilot)),
+        Q15::from_i16_slice_mut(cast_slice_mut(&mut sum)),
+        Q15::from_i16_slice_mut(cast_slice_mut(&mut difference)),
+    );
+    assert_eq!(said, Ok(()));
+    let got = sum.iter().zip(&difference);
+    assert!(got.eq(output.iter().map(|x| (&x.re, &x.im))));
+    assert!(state.is_stereo() && fallback.is_stereo());
+    1
+}
+
 pub fn run() -> ExitCode {
     for (what, (calls, stereo)) in [
         ("decoder f32", decoders::<f32>(1)),
@@ -342,5 +373,6 @@ pub fn run() -> ExitCode {
     println!("matrix f32: {} calls agree", matrices::<f32>(3));
     println!("matrix Q15: {} calls agree", matrices::<Q15>(4));
     println!("encoders: {} calls agree", encoders(5));
+    println!("sdrk's own slices: {} call agrees", mixed());
     ExitCode::SUCCESS
 }

@@ -4,7 +4,7 @@ mod common;
 
 use common::{Format, RATE, decoder, pilot};
 use pescrondilu::kernels::stereo::{DecoderRecord, StereoPll, StereoPllState};
-use pescrondilu::{C32, Proved, Q15, RealSample};
+use pescrondilu::{C32, Proved, Q15, Rate, RealSample};
 
 /// Runs a block of the given pilot; the multiplex signal is a constant.
 fn run<T: RealSample>(st: &mut StereoPllState<T>, pilot: &[T]) -> Vec<T> {
@@ -170,6 +170,18 @@ fn reset_gives_a_fresh_decoder() {
     }
     check::<f32>();
     check::<Q15>();
+}
+
+/// sdrk's lock coefficient: a time constant of 50 ms.
+#[test]
+fn the_level_is_smoothed_over_50_ms() {
+    for hz in [96_000, 192_000, 480_000] {
+        let rate = Rate::hz(hz).expect("a good rate");
+        let st = StereoPllState::<f32>::new(19_000.0, 20.0, 0.1, rate).expect("good arguments");
+        let beta = 1.0 - (-1.0 / (hz as f64 * 0.05)).exp();
+        assert_eq!(st.coefficients().beta, beta);
+        assert_eq!(st.record().beta, beta as f32);
+    }
 }
 
 /// The coefficients are the f64 that the core rounded into its record.
