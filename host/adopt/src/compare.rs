@@ -1,5 +1,5 @@
-//! Both ways beside `Fallback`: answers, outputs and read-outs after each call, bit for bit. Any NaN
-//! matches any NaN.
+//! Both ways beside `Fallback`: answers, outputs and read-outs after each call, bit for bit. Any
+//! NaN matches any NaN.
 
 use std::process::ExitCode;
 

@@ -1,5 +1,5 @@
-//! What a call costs: `Fallback`, the backend `Proved` inside sdrk-core, the crate by slices and the
-//! crate by pairs, in nanoseconds and as a ratio to `Fallback`.
+//! What a call costs: `Fallback`, the backend `Proved` inside sdrk-core, the crate by slices and
+//! the crate by pairs, in nanoseconds and as a ratio to `Fallback`.
 //!
 //! The four take turns in one process and each begins some rounds, so that what else the machine
 //! does falls on all of them. A round is one pass over 4096 samples in blocks of n; the median of
@@ -26,8 +26,8 @@ const WARM: usize = 40;
 const PILOT_HZ: f64 = 18_000.0;
 const RATE: f64 = 192_000.0;
 
-/// Samples that begin at a place of their own in a page, so that reads do not wait for writes to the
-/// same place of another page.
+/// Samples that begin at a place of their own in a page, so that reads do not wait for writes to
+/// the same place of another page.
 struct Apart<T> {
     room: Vec<T>,
     from: usize,

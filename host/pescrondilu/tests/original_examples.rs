@@ -2,8 +2,8 @@
 //!
 //! They are taken from the original's sources when the test runs, from the folder that SDRK_SRC
 //! names (the one with `crates/` in it). They become the tests of a small cargo project under the
-//! target folder; no line of them stands in this repository. Where the variable is not set, the test
-//! says so and does nothing.
+//! target folder; no line of them stands in this repository. Where the variable is not set, the
+//! test says so and does nothing.
 
 use std::env;
 use std::fs;

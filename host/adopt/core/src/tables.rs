@@ -1,4 +1,4 @@
-//! Stand-in for tables.rs: the cosine as constants of 4097 entries, so that the compiler knows their
+//! Stand-in for tables.rs: the cosine as constants of 4097 entries, so that the compiler knows the
 //! length as it does in the original. The program compares them with the crate's tables, so both
 //! sides work with the same numbers.
 

@@ -259,9 +259,9 @@ impl<T: RealSample> StereoPllState<T> {
     }
 
     /// One block, with the crate's table. `mpx` is the multiplex signal and `pilot` the same signal
-    /// through the pilot's band-pass. `sum` becomes `mpx`; `difference` becomes `mpx` times the sine
-    /// of twice the phase while the decision is stereo and the difference is on, and 0 otherwise.
-    /// A pilot sample that is not finite leaves the level and the decision.
+    /// through the pilot's band-pass. `sum` becomes `mpx`; `difference` becomes `mpx` times the
+    /// sine of twice the phase while the decision is stereo and the difference is on, and 0
+    /// otherwise. A pilot sample that is not finite leaves the level and the decision.
     ///
     /// # Errors
     /// The causes 10 and 11, for Q15 also 0 first; state and outputs stay.
