@@ -7,7 +7,9 @@ use bytemuck::{cast_slice, cast_slice_mut};
 use pescrondilu::kernels::stereo::{self as ours, StereoPll as _};
 use pescrondilu::{C32, Error, Proved, Q15, Rate};
 use sdrk_core::error::Error as TheirError;
-use sdrk_core::kernels::stereo::{self as original, StereoEncode as _, StereoEncodeRds as _};
+use sdrk_core::kernels::stereo::{
+    self as original, StereoEncode as _, StereoEncodeRds as _, StereoMatrix as _, StereoPll as _,
+};
 use sdrk_core::timing::Rate as TheirRate;
 
 use crate::format::{

@@ -35,8 +35,11 @@ impl<T: TheirReal, B: StereoPll<T> + StereoMatrix<T::Complex>> Backend<T> for B 
 pub trait Format: RealSample {
     type Theirs: TheirReal;
     const NAME: &str;
-    const FALLBACK: &'static dyn Backend<Self::Theirs>;
-    const PROVED: &'static dyn Backend<Self::Theirs>;
+    /// The original's two backends; types of their own, so that a call is a plain call.
+    type Fallback: Backend<Self::Theirs>;
+    type Proved: Backend<Self::Theirs>;
+    const FALLBACK: Self::Fallback;
+    const PROVED: Self::Proved;
     fn theirs(self) -> Self::Theirs;
     /// Any NaN is one NaN.
     fn bits(self) -> u64;
@@ -47,8 +50,10 @@ pub trait Format: RealSample {
 impl Format for f32 {
     type Theirs = f32;
     const NAME: &str = "f32";
-    const FALLBACK: &'static dyn Backend<f32> = &Fallback;
-    const PROVED: &'static dyn Backend<f32> = &Proved;
+    type Fallback = Fallback;
+    type Proved = Proved;
+    const FALLBACK: Fallback = Fallback;
+    const PROVED: Proved = Proved;
 
     fn theirs(self) -> f32 {
         self
@@ -71,8 +76,10 @@ impl Format for f32 {
 impl Format for Q15 {
     type Theirs = sdrk_core::types::Q15;
     const NAME: &str = "Q15";
-    const FALLBACK: &'static dyn Backend<Self::Theirs> = &Fallback;
-    const PROVED: &'static dyn Backend<Self::Theirs> = &Proved;
+    type Fallback = Fallback;
+    type Proved = Proved;
+    const FALLBACK: Fallback = Fallback;
+    const PROVED: Proved = Proved;
 
     fn theirs(self) -> Self::Theirs {
         sdrk_core::types::Q15(self.0)

@@ -12,7 +12,9 @@ use std::time::Instant;
 
 use pescrondilu::kernels::stereo::{self as ours, StereoPll as _};
 use pescrondilu::{C32, Proved, Q15};
-use sdrk_core::kernels::stereo::{self as original, StereoEncode as _};
+use sdrk_core::kernels::stereo::{
+    self as original, StereoEncode as _, StereoMatrix as _, StereoPll as _,
+};
 use sdrk_core::timing::Rate as TheirRate;
 
 use crate::format::{Format, pairs, their_pairs, theirs};
