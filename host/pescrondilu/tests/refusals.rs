@@ -3,7 +3,7 @@
 
 mod common;
 
-use common::{Format, all_bits, cause, decoder, lengths, pair_bits, record_bits};
+use common::{Format, Random, all_bits, any, cause, decoder, lengths, pair_bits, record_bits};
 use pescrondilu::kernels::mix::Nco;
 use pescrondilu::kernels::stereo::{
     DecoderRecord, StereoEncode, StereoEncodeRds, StereoEncodeRdsState, StereoEncodeState,
@@ -320,6 +320,13 @@ fn records_at_their_limits_are_fit() {
         let mut st = StereoPllState::<Q15>::from_record(record);
         let (mut sum, mut difference) = ([Q15(0)], [Q15(0)]);
         let answer = st.process(&[Q15(1)], &[Q15(1)], &mut sum, &mut difference);
+        assert_eq!(answer, Ok(()));
+        // Many pieces: none after the first is refused.
+        let mut random = Random(7);
+        let (mpx, pilot) = (any(&mut random, 1000), any(&mut random, 1000));
+        let mut st = StereoPllState::<Q15>::from_record(record);
+        let mut output = [CQ15::ZERO; 1000];
+        let answer = Proved.stereo_pll(&mut st, &mpx, &pilot, &mut output);
         assert_eq!(answer, Ok(()));
     }
 }
