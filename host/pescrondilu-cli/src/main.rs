@@ -1,1 +1,7 @@
+mod args;
+mod draft;
+mod fault;
+mod filter;
+mod source;
+mod wav;
 fn main() {}
