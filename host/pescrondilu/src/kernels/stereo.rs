@@ -1,0 +1,23 @@
+//! FM stereo: the pilot loop, the matrix, the multiplex encoders, the on-air verdict.
+//!
+//! The states have calls over slices: `process` with the crate's table, `process_with` with a lent
+//! one. They copy nothing and give a [`Refusal`](crate::Refusal). sdrk's traits over slices of pairs
+//! stand beside them for [`Proved`](crate::Proved); these copy through a small scratch and give an
+//! [`Error`](crate::Error).
+
+mod decoder;
+mod encoder;
+mod matrix;
+mod pairs;
+
+pub use decoder::{StereoPll, StereoPllCoefficients, StereoPllState};
+pub use encoder::{StereoEncode, StereoEncodeRds, StereoEncodeRdsState, StereoEncodeState, on_air};
+pub use matrix::{StereoMatrix, matrix};
+
+/// A decoder's record as the core has it, over f32 or, for Q15, over i64. A switch is off at 0 and
+/// on at anything else.
+pub use pescrondilu_sys::decoder::Decoder as DecoderRecord;
+/// An encoder's record as the core has it.
+pub use pescrondilu_sys::encoder::StereoEncode as EncoderRecord;
+/// The record of an encoder with RDS as the core has it.
+pub use pescrondilu_sys::encoder::StereoEncodeRds as EncoderRdsRecord;
