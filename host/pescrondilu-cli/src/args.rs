@@ -1,5 +1,7 @@
 //! The words of the command line: options with one value each, and the rest.
 
+use std::ops::RangeInclusive;
+
 use crate::fault::{Fault, Outcome};
 
 #[derive(Debug, Default)]
@@ -58,14 +60,16 @@ impl Args {
         }
     }
 
-    /// A number above `least` and up to `most`, or `default` where none is given.
-    pub fn within(&self, name: &str, default: f64, least: f64, most: f64) -> Outcome<f64> {
+    /// A number in `range`, or `default` where none is given.
+    pub fn within(&self, name: &str, default: f64, range: RangeInclusive<f64>) -> Outcome<f64> {
         let value = self.number(name)?.unwrap_or(default);
-        if value > least && value <= most {
+        if range.contains(&value) {
             return Ok(value);
         }
-        let range = format!("wants a number above {least} and up to {most}, not {value}");
-        Err(Fault::usage(format!("{name} {range}")))
+        let (least, most) = (range.start(), range.end());
+        Err(Fault::usage(format!(
+            "{name} wants a number from {least} to {most}, not {value}"
+        )))
     }
 
     /// One of `choices`, the first where none is given.
@@ -121,7 +125,10 @@ mod tests {
     fn wrong_words_are_named() {
         let said = |line: &str| parse(line).unwrap_err().text().to_string();
         assert_eq!(said("--nonsense 1"), "unknown option --nonsense");
-        assert_eq!(said("--demphasis 1"), "unknown option --demphasis; is --deemphasis meant?");
+        assert_eq!(
+            said("--demphasis 1"),
+            "unknown option --demphasis; is --deemphasis meant?"
+        );
         assert_eq!(said("a.wav --rate"), "--rate wants a value");
         assert_eq!(said("--é 1"), "unknown option --é");
     }
@@ -130,20 +137,33 @@ mod tests {
     fn numbers_are_finite_and_in_range() {
         for text in ["ten", "nan", "inf", "1e999", ""] {
             let args = parse(&format!("--rate={text}")).unwrap();
-            assert!(matches!(args.number("--rate"), Err(Fault::Usage(_))), "{text}");
+            assert!(
+                matches!(args.number("--rate"), Err(Fault::Usage(_))),
+                "{text}"
+            );
         }
         let args = parse("--rate 5").unwrap();
-        assert_eq!(args.within("--rate", 1.0, 0.0, 5.0).unwrap(), 5.0);
-        assert!(args.within("--rate", 1.0, 5.0, 9.0).is_err());
-        assert_eq!(args.within("-o", 2.0, 0.0, 5.0).unwrap(), 2.0);
+        assert_eq!(args.within("--rate", 1.0, 0.0..=5.0).unwrap(), 5.0);
+        assert_eq!(args.within("-o", 2.0, 0.0..=5.0).unwrap(), 2.0);
+        let said = args.within("--rate", 1.0, 5.1..=9.0).unwrap_err();
+        assert_eq!(said.text(), "--rate wants a number from 5.1 to 9, not 5");
     }
 
     #[test]
     fn a_choice_is_one_of_its_names() {
         let choices = [("50", 5), ("75", 7)];
         assert_eq!(parse("").unwrap().choice("--rate", &choices).unwrap(), 5);
-        assert_eq!(parse("--rate 75").unwrap().choice("--rate", &choices).unwrap(), 7);
-        let wrong = parse("--rate 60").unwrap().choice("--rate", &choices).unwrap_err();
+        assert_eq!(
+            parse("--rate 75")
+                .unwrap()
+                .choice("--rate", &choices)
+                .unwrap(),
+            7
+        );
+        let wrong = parse("--rate 60")
+            .unwrap()
+            .choice("--rate", &choices)
+            .unwrap_err();
         assert_eq!(wrong.text(), "--rate: 60 is none of 50, 75");
     }
 }

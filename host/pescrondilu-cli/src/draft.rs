@@ -26,7 +26,12 @@ impl Draft {
         let file = File::create(part.as_ref().unwrap_or(&whole));
         let file = file.map_err(|why| Fault::io(name, why))?;
         let writer = BufWriter::with_capacity(1 << 16, file);
-        Ok(Draft { name: name.to_string(), writer, part, whole })
+        Ok(Draft {
+            name: name.to_string(),
+            writer,
+            part,
+            whole,
+        })
     }
 
     /// Whether one can go back and write the header again.
@@ -35,12 +40,17 @@ impl Draft {
     }
 
     pub fn write(&mut self, bytes: &[u8]) -> Outcome<()> {
-        self.writer.write_all(bytes).map_err(|why| Fault::io(&self.name, why))
+        self.writer
+            .write_all(bytes)
+            .map_err(|why| Fault::io(&self.name, why))
     }
 
     /// Writes over the first bytes.
     pub fn rewrite_start(&mut self, bytes: &[u8]) -> Outcome<()> {
-        let written = self.writer.seek(SeekFrom::Start(0)).and_then(|_| self.writer.write_all(bytes));
+        let written = self
+            .writer
+            .seek(SeekFrom::Start(0))
+            .and_then(|_| self.writer.write_all(bytes));
         written.map_err(|why| Fault::io(&self.name, why))
     }
 

@@ -32,7 +32,12 @@ pub fn open(name: &str, raw: Option<Encoding>) -> Outcome<Source> {
         return Err(Fault::failed(name, "is a folder"));
     }
     let size = there.is_file().then_some(there.len());
-    from_reader(name, Box::new(BufReader::with_capacity(1 << 16, file)), size, raw)
+    from_reader(
+        name,
+        Box::new(BufReader::with_capacity(1 << 16, file)),
+        size,
+        raw,
+    )
 }
 
 fn from_reader(
@@ -69,7 +74,14 @@ fn wav(name: &str, mut reader: Box<dyn Read>) -> Outcome<Source> {
         None => reader,
     };
     let rate = Some(found.rate);
-    Ok(Source::new(name, samples, found.encoding, found.channels, rate, frames))
+    Ok(Source::new(
+        name,
+        samples,
+        found.encoding,
+        found.channels,
+        rate,
+        frames,
+    ))
 }
 
 impl Source {
@@ -83,7 +95,18 @@ impl Source {
     ) -> Source {
         let name = name.to_string();
         let (bytes, ended, torn, read) = (Vec::new(), false, false, 0);
-        Source { name, reader, encoding, channels, rate, frames, read, bytes, ended, torn }
+        Source {
+            name,
+            reader,
+            encoding,
+            channels,
+            rate,
+            frames,
+            read,
+            bytes,
+            ended,
+            torn,
+        }
     }
 
     pub fn name(&self) -> &str {
@@ -114,7 +137,7 @@ impl Source {
         let frames = frames.min((1 << 20) / frame).max(1);
         self.fill(frames * frame)?;
         let whole = self.bytes.len() / frame;
-        self.torn |= self.bytes.len() % frame != 0;
+        self.torn |= !self.bytes.len().is_multiple_of(frame);
         self.read += whole as u64;
         for (at, channel) in channels.iter_mut().enumerate() {
             channel.clear();
@@ -143,7 +166,8 @@ impl Source {
             return;
         }
         for bytes in self.bytes.chunks_exact(frame) {
-            self.encoding.decode(&bytes[channel * width..][..width], out);
+            self.encoding
+                .decode(&bytes[channel * width..][..width], out);
         }
     }
 
@@ -152,7 +176,10 @@ impl Source {
         match self.frames {
             Some(frames) if self.read < frames => {
                 let early = "the header says that there are";
-                Some(format!("the samples end early: {} were read, {early} {frames}", self.read))
+                Some(format!(
+                    "the samples end early: {} were read, {early} {frames}",
+                    self.read
+                ))
             }
             _ if self.torn => Some("the last sample is not whole and was left out".into()),
             _ => None,
@@ -201,7 +228,10 @@ mod tests {
         for piece in 1..5 {
             let mut source = from_bytes(bytes.clone(), None).unwrap();
             assert_eq!((source.rate(), source.frames()), (Some(48_000), Some(3)));
-            assert_eq!(all(&mut source, piece), [[0.5, -0.5, 0.0], [0.0, 0.25, -0.25]]);
+            assert_eq!(
+                all(&mut source, piece),
+                [[0.5, -0.5, 0.0], [0.0, 0.25, -0.25]]
+            );
             assert_eq!(source.complaint(), None);
         }
     }

@@ -32,7 +32,12 @@ pub struct Kernel {
 impl Kernel {
     pub fn new(cut: f64, half: usize) -> Kernel {
         let beta = kaiser_beta(STOP_DB);
-        Kernel { cut, half: half as f64, beta, scale: 1.0 / bessel_i0(beta) }
+        Kernel {
+            cut,
+            half: half as f64,
+            beta,
+            scale: 1.0 / bessel_i0(beta),
+        }
     }
 
     /// The value `t` samples from the middle.
@@ -47,7 +52,11 @@ impl Kernel {
 }
 
 fn sinc(x: f64) -> f64 {
-    if x == 0.0 { 1.0 } else { (PI * x).sin() / (PI * x) }
+    if x == 0.0 {
+        1.0
+    } else {
+        (PI * x).sin() / (PI * x)
+    }
 }
 
 /// Samples on each side of the middle for a step from pass to stop band that is `width` wide.
@@ -75,8 +84,14 @@ pub fn band_pass(middle: f64, reach: f64, rate: f64) -> Vec<f64> {
     let turn = TAU * middle / rate;
     let half = half_length(reach, rate);
     let kernel = Kernel::new(reach / (2.0 * rate), half);
-    let taps: Vec<f64> = places(half).map(|k| kernel.at(k) * (turn * k).cos()).collect();
-    let gain: f64 = taps.iter().zip(places(half)).map(|(tap, k)| tap * (turn * k).cos()).sum();
+    let taps: Vec<f64> = places(half)
+        .map(|k| kernel.at(k) * (turn * k).cos())
+        .collect();
+    let gain: f64 = taps
+        .iter()
+        .zip(places(half))
+        .map(|(tap, k)| tap * (turn * k).cos())
+        .sum();
     taps.into_iter().map(|tap| tap / gain).collect()
 }
 
@@ -85,7 +100,10 @@ pub fn band_pass(middle: f64, reach: f64, rate: f64) -> Vec<f64> {
 pub fn gain(taps: &[f64], frequency: f64, rate: f64) -> f64 {
     let turn = TAU * frequency / rate;
     let half = taps.len() / 2;
-    taps.iter().zip(places(half)).map(|(tap, k)| tap * (turn * k).cos()).sum()
+    taps.iter()
+        .zip(places(half))
+        .map(|(tap, k)| tap * (turn * k).cos())
+        .sum()
 }
 
 /// In decibels.
@@ -113,11 +131,17 @@ mod tests {
             let taps = low_pass(15_000.0, 18_000.0, rate);
             assert!((gain(&taps, 0.0, rate) - 1.0).abs() < 1e-12);
             for frequency in [1_000.0, 10_000.0, 15_000.0] {
-                assert!(db(gain(&taps, frequency, rate)).abs() < 0.001, "{frequency} at {rate}");
+                assert!(
+                    db(gain(&taps, frequency, rate)).abs() < 0.001,
+                    "{frequency} at {rate}"
+                );
             }
             let mut frequency = 18_000.0;
             while frequency <= rate / 2.0 {
-                assert!(db(gain(&taps, frequency, rate)) < -88.0, "{frequency} at {rate}");
+                assert!(
+                    db(gain(&taps, frequency, rate)) < -88.0,
+                    "{frequency} at {rate}"
+                );
                 frequency += 50.0;
             }
         }
@@ -131,7 +155,9 @@ mod tests {
             for near in [18_950.0, 19_050.0] {
                 assert!(db(gain(&taps, near, rate)).abs() < 0.01, "{near} at {rate}");
             }
-            let stop = (0..=15_000).step_by(50).chain((23_000..rate as usize / 2).step_by(50));
+            let stop = (0..=15_000)
+                .step_by(50)
+                .chain((23_000..rate as usize / 2).step_by(50));
             for frequency in stop {
                 let there = db(gain(&taps, frequency as f64, rate));
                 assert!(there < -84.0, "{there} at {frequency} of {rate}");

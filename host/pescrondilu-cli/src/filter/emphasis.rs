@@ -34,8 +34,16 @@ fn fit(seconds: f64, rate: f64) -> Fit {
     // inverse, and the one inside the circle can be inverted
     let half = (cos - ratio) / (1.0 - ratio);
     let root = (half * half - 1.0).max(0.0).sqrt();
-    let zero = if half > 0.0 { -half + root } else { -half - root };
-    Fit { pole, zero, gain: (1.0 - pole) / (1.0 + zero) }
+    let zero = if half > 0.0 {
+        -half + root
+    } else {
+        -half - root
+    };
+    Fit {
+        pole,
+        zero,
+        gain: (1.0 - pole) / (1.0 + zero),
+    }
 }
 
 impl Emphasis {
@@ -52,7 +60,12 @@ impl Emphasis {
     }
 
     fn new(forward: [f64; 2], back: f64) -> Emphasis {
-        Emphasis { forward, back, last_in: 0.0, last_out: 0.0 }
+        Emphasis {
+            forward,
+            back,
+            last_in: 0.0,
+            last_out: 0.0,
+        }
     }
 
     pub fn run(&mut self, samples: &mut [f32]) {

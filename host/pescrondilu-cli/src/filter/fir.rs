@@ -18,7 +18,12 @@ impl Fir {
     pub fn new(taps: &[f64], step: usize) -> Fir {
         let taps: Vec<f32> = taps.iter().map(|&tap| tap as f32).collect();
         let kept = vec![0.0; taps.len() / 2];
-        Fir { taps, kept, next: 0, step }
+        Fir {
+            taps,
+            kept,
+            next: 0,
+            step,
+        }
     }
 
     /// By how many samples the outputs lag behind.
@@ -54,7 +59,9 @@ mod tests {
     const RATE: f64 = 192_000.0;
 
     fn tone(frequency: f64, samples: usize) -> Vec<f32> {
-        (0..samples).map(|i| (TAU * frequency * i as f64 / RATE).sin() as f32).collect()
+        (0..samples)
+            .map(|i| (TAU * frequency * i as f64 / RATE).sin() as f32)
+            .collect()
     }
 
     fn filtered(fir: &mut Fir, input: &[f32], piece: usize) -> Vec<f32> {
@@ -98,7 +105,10 @@ mod tests {
         for piece in [1, 7, 4_001] {
             let some = filtered(&mut Fir::new(&taps, 4), &input, piece);
             assert_eq!(some.len(), 1_001);
-            let same = some.iter().zip(all.iter().step_by(4)).all(|(a, b)| a.to_bits() == b.to_bits());
+            let same = some
+                .iter()
+                .zip(all.iter().step_by(4))
+                .all(|(a, b)| a.to_bits() == b.to_bits());
             assert!(same, "pieces of {piece}");
         }
         for (x, y) in input.iter().zip(&all).skip(300).take(3_400) {

@@ -44,7 +44,16 @@ impl Interpolator {
         let taps = (0..=rows).flat_map(|row| row_of(&kernel, half, row as f64 / rows as f64));
         let (taps, width) = (taps.collect(), 2 * half);
         let kept = vec![0.0; half - 1];
-        Interpolator { taps, width, rows, up, down, place: 0, kept, next: 0 }
+        Interpolator {
+            taps,
+            width,
+            rows,
+            up,
+            down,
+            place: 0,
+            kept,
+            next: 0,
+        }
     }
 
     /// Appends the outputs for which enough inputs are there.
@@ -97,13 +106,17 @@ mod tests {
 
     fn tone(frequency: f64, rate: u32, samples: usize) -> Vec<f32> {
         let rate = f64::from(rate);
-        (0..samples).map(|i| (TAU * frequency * i as f64 / rate).sin() as f32).collect()
+        (0..samples)
+            .map(|i| (TAU * frequency * i as f64 / rate).sin() as f32)
+            .collect()
     }
 
     fn interpolated(from: u32, to: u32, input: &[f32], piece: usize) -> Vec<f32> {
         let mut interpolator = Interpolator::new(from, to);
         let mut out = Vec::new();
-        input.chunks(piece).for_each(|part| interpolator.run(part, &mut out));
+        input
+            .chunks(piece)
+            .for_each(|part| interpolator.run(part, &mut out));
         interpolator.finish(&mut out);
         out
     }
@@ -124,7 +137,10 @@ mod tests {
             let samples = from as usize / 20;
             let frequency = f64::min(14_000.0, 0.4 * f64::from(from));
             let out = interpolated(from, to, &tone(frequency, from, samples), 777);
-            assert_eq!(out.len() as u64, (samples as u64 * u64::from(to)).div_ceil(from.into()));
+            assert_eq!(
+                out.len() as u64,
+                (samples as u64 * u64::from(to)).div_ceil(from.into())
+            );
             let wanted = tone(frequency, to, out.len());
             let edge = out.len() / 3;
             let worst = (edge..out.len() - edge).map(|i| (out[i] - wanted[i]).abs());

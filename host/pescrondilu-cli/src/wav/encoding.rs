@@ -94,9 +94,18 @@ mod tests {
     #[test]
     fn integers_are_parts_of_full_scale() {
         assert_eq!(decoded(Encoding::U8, &[0, 128, 192]), [-1.0, 0.0, 0.5]);
-        assert_eq!(decoded(Encoding::S16, &[0, 0x80, 0, 0x40, 1, 0]), [-1.0, 0.5, 1.0 / 32_768.0]);
-        assert_eq!(decoded(Encoding::S24, &[0, 0, 0x80, 0, 0, 0x40]), [-1.0, 0.5]);
-        assert_eq!(decoded(Encoding::S32, &[0, 0, 0, 0x80, 0, 0, 0, 0xC0]), [-1.0, -0.5]);
+        assert_eq!(
+            decoded(Encoding::S16, &[0, 0x80, 0, 0x40, 1, 0]),
+            [-1.0, 0.5, 1.0 / 32_768.0]
+        );
+        assert_eq!(
+            decoded(Encoding::S24, &[0, 0, 0x80, 0, 0, 0x40]),
+            [-1.0, 0.5]
+        );
+        assert_eq!(
+            decoded(Encoding::S32, &[0, 0, 0, 0x80, 0, 0, 0, 0xC0]),
+            [-1.0, -0.5]
+        );
     }
 
     #[test]
@@ -104,7 +113,10 @@ mod tests {
         let negative_nan = f32::from_bits(0xFFC0_0000);
         let out = decoded(Encoding::F32, &negative_nan.to_le_bytes());
         assert_eq!(out[0].to_bits(), 0xFFC0_0000);
-        let out = decoded(Encoding::F64, &[1e300f64, 0.25].map(f64::to_le_bytes).concat());
+        let out = decoded(
+            Encoding::F64,
+            &[1e300f64, 0.25].map(f64::to_le_bytes).concat(),
+        );
         assert_eq!(out, [f32::INFINITY, 0.25]);
     }
 
@@ -117,12 +129,18 @@ mod tests {
     fn odd_widths_stand_in_whole_bytes() {
         let sizes = [8, 12, 16, 20, 24, 32].map(|bits| Encoding::pcm(bits).unwrap().bytes());
         assert_eq!(sizes, [1, 2, 2, 3, 3, 4]);
-        assert_eq!((Encoding::pcm(0), Encoding::pcm(33), Encoding::float(16)), (None, None, None));
+        assert_eq!(
+            (Encoding::pcm(0), Encoding::pcm(33), Encoding::float(16)),
+            (None, None, None)
+        );
     }
 
     #[test]
     fn sixteen_bits_saturate() {
         let given = [0.5, 1.0, -1.0, 3.0, -3.0, f32::NAN, f32::INFINITY];
-        assert_eq!(given.map(to_i16), [16_384, 32_767, -32_768, 32_767, -32_768, 0, 32_767]);
+        assert_eq!(
+            given.map(to_i16),
+            [16_384, 32_767, -32_768, 32_767, -32_768, 0, 32_767]
+        );
     }
 }

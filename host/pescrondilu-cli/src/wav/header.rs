@@ -43,11 +43,17 @@ pub fn read(reader: &mut impl Read) -> Result<Header, String> {
 
 fn next_chunk(reader: &mut impl Read) -> Result<Chunk, String> {
     let mut head = Vec::new();
-    reader.take(8).read_to_end(&mut head).map_err(|why| why.to_string())?;
+    reader
+        .take(8)
+        .read_to_end(&mut head)
+        .map_err(|why| why.to_string())?;
     let Ok([a, b, c, d, n0, n1, n2, n3]) = <[u8; 8]>::try_from(head) else {
         return Err("the WAV file ends before its samples".into());
     };
-    Ok(Chunk { name: [a, b, c, d], bytes: u32::from_le_bytes([n0, n1, n2, n3]) })
+    Ok(Chunk {
+        name: [a, b, c, d],
+        bytes: u32::from_le_bytes([n0, n1, n2, n3]),
+    })
 }
 
 /// The first `N` bytes of a chunk, or all of a shorter one. The rest is skipped without keeping it;
@@ -111,7 +117,12 @@ fn read_format(chunk: &[u8]) -> Result<Header, String> {
         let given = format!("{channels} channels of {encoding}");
         return Err(format!("a WAV frame of {frame} bytes cannot hold {given}"));
     }
-    Ok(Header { encoding, channels, rate, bytes: None })
+    Ok(Header {
+        encoding,
+        channels,
+        rate,
+        bytes: None,
+    })
 }
 
 /// A writer to a pipe leaves 0 or the highest number as length, since it cannot know it.
@@ -160,9 +171,17 @@ mod tests {
             (3, 32, Encoding::F32),
             (3, 64, Encoding::F64),
         ] {
-            let parts = [chunk(b"fmt ", &format(tag, 2, 192_000, bits)), chunk(b"data", &[0; 64])];
+            let parts = [
+                chunk(b"fmt ", &format(tag, 2, 192_000, bits)),
+                chunk(b"data", &[0; 64]),
+            ];
             let header = read_all(&parts).unwrap();
-            let wanted = Header { encoding, channels: 2, rate: 192_000, bytes: Some(64) };
+            let wanted = Header {
+                encoding,
+                channels: 2,
+                rate: 192_000,
+                bytes: Some(64),
+            };
             assert_eq!(header, wanted);
         }
     }
@@ -219,7 +238,10 @@ mod tests {
             (vec![fmt(1, 0, 48_000, 16), data()], "0 channels"),
             (vec![fmt(1, 1, 0, 16), data()], "rate of 0 Hz"),
             (vec![fmt(1, 1, 48_000, 0), data()], "is not read"),
-            (vec![fmt(7, 1, 48_000, 8), data()], "WAV format 7 with 8 bits is not read"),
+            (
+                vec![fmt(7, 1, 48_000, 8), data()],
+                "WAV format 7 with 8 bits is not read",
+            ),
             (vec![wrong_frame, data()], "frame of 3 bytes"),
         ] {
             let said = read_all(&parts).unwrap_err();

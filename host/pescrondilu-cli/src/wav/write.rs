@@ -59,7 +59,12 @@ impl Writer {
             draft.write(&header(shape, None))?;
             Target::Wav(draft)
         };
-        Ok(Writer { target, shape, bytes: 0, packed: Vec::new() })
+        Ok(Writer {
+            target,
+            shape,
+            bytes: 0,
+            packed: Vec::new(),
+        })
     }
 
     /// One slice a channel, all of one length.
@@ -131,7 +136,11 @@ fn format_chunk(shape: Shape) -> Vec<u8> {
     f.extend([tag, shape.channels].map(u16::to_le_bytes).concat());
     f.extend(shape.rate.to_le_bytes());
     f.extend(shape.rate.saturating_mul(frame.into()).to_le_bytes());
-    f.extend([frame, 8 * shape.samples.bytes()].map(u16::to_le_bytes).concat());
+    f.extend(
+        [frame, 8 * shape.samples.bytes()]
+            .map(u16::to_le_bytes)
+            .concat(),
+    );
     f
 }
 
@@ -141,20 +150,30 @@ mod tests {
     use super::super::header::{self as reader, START};
     use super::*;
 
-    const SHAPE: Shape = Shape { samples: Samples::F32, channels: 2, rate: 48_000 };
+    const SHAPE: Shape = Shape {
+        samples: Samples::F32,
+        channels: 2,
+        rate: 48_000,
+    };
 
     fn read_back(bytes: Option<u64>) -> (bool, reader::Header) {
         let made = header(SHAPE, bytes);
         assert_eq!(made.len() as u64, HEADER);
         assert!(reader::is_wav(&made));
-        (made.starts_with(b"RF64"), reader::read(&mut &made[START..]).unwrap())
+        (
+            made.starts_with(b"RF64"),
+            reader::read(&mut &made[START..]).unwrap(),
+        )
     }
 
     #[test]
     fn the_reader_takes_the_header() {
         let (long, read) = read_back(Some(800));
         assert!(!long);
-        assert_eq!((read.encoding, read.channels, read.rate), (Encoding::F32, 2, 48_000));
+        assert_eq!(
+            (read.encoding, read.channels, read.rate),
+            (Encoding::F32, 2, 48_000)
+        );
         assert_eq!(read.bytes, Some(800));
         assert_eq!(read_back(None).1.bytes, None);
     }
