@@ -21,7 +21,7 @@ const FADE: [f64; 4] = [2.5, 3.3, 3.9, 4.7];
 /// A retune: a burst that is not finite, then noise until the next station.
 const RETUNE: f64 = 6.0;
 const BURST_END: f64 = 6.02;
-const STATION: f64 = 6.6;
+const STATION: f64 = 6.8;
 /// The pilot alone fades, as before a mono programme, and comes back.
 const PILOT_FADE: [f64; 4] = [8.5, 9.5, 10.1, 10.3];
 

@@ -46,8 +46,9 @@ Receiver
   --deemphasis 50|75|none   time constant in microseconds (50)
 
 The audio's rate is the capture's divided by a whole number: 48 or 44.1 kHz where that can be, else
-near 48 kHz. A NaN or infinity in the capture is passed on and is gone after the filters' length;
-with de-emphasis the audio then stays where it was.
+near 48 kHz. All times are those of the capture: the filters add no delay. A NaN or infinity in the
+capture is passed on and is gone after the filters' length; with de-emphasis the audio stays where
+it was until then.
 
 Examples
   pescrondilu decode capture.wav -o audio.wav --log lamp.csv --plot lamp.svg

@@ -99,12 +99,7 @@ impl Plot<'_> {
         let any = |test: fn(&Period) -> bool| self.periods.iter().any(test);
         let entries = [
             (true, LEVEL, 0.85, "level, least to highest in a period"),
-            (
-                any(|p| p.bad + p.bad_pilot > 0),
-                BAD,
-                0.4,
-                "NaN or infinity in the pilot",
-            ),
+            (any(bad), BAD, 0.4, "NaN or infinity in the capture"),
             (any(|p| p.level_nan), NAN, 1.0, "the level is NaN"),
             (any(flickers), FLICKER, 1.0, "lamp changed more than once"),
         ];
@@ -126,7 +121,7 @@ impl Plot<'_> {
     }
 
     fn bad_periods(&self, canvas: &mut Canvas, scale: &Scale) {
-        for (from, to) in self.stretches(scale, |p| p.bad + p.bad_pilot > 0) {
+        for (from, to) in self.stretches(scale, bad) {
             let width = (to - from).max(3.0);
             canvas.rect(from, TOP, width, STRIP - TOP - 4.0, BAD, 0.4);
         }
@@ -177,7 +172,7 @@ impl Plot<'_> {
             };
             for (from, to) in self.stretches(scale, |p| p.stereo == stereo) {
                 canvas.rect(from, STRIP, to - from, STRIP_HEIGHT, colour, 1.0);
-                if to - from > 60.0 {
+                if to - from > 56.0 {
                     let style = Style::new(ink).size(14.0).bold().middle();
                     canvas.text((from + to) / 2.0, base, lamp(stereo), style);
                 }
@@ -194,6 +189,10 @@ impl Plot<'_> {
             );
         }
     }
+}
+
+fn bad(period: &Period) -> bool {
+    period.bad + period.bad_pilot > 0
 }
 
 fn flickers(period: &Period) -> bool {

@@ -71,11 +71,8 @@ impl Report<'_> {
         );
         for change in self.history.changes() {
             let (at, name) = (self.seconds(change.at), lamp(change.stereo));
-            let _ = write!(
-                text,
-                "\n{:>22.3} s  {name:<6}  level {:.4}",
-                at, change.level
-            );
+            let level = number(change.level);
+            let _ = write!(text, "\n{at:>22.3} s  {name:<6}  level {level}");
         }
         if changes > MOST_CHANGES as u64 {
             let more = changes - MOST_CHANGES as u64;
@@ -110,19 +107,20 @@ impl Report<'_> {
             true => "within BS.450 (0.08 to 0.1)",
             false => "outside BS.450 (0.08 to 0.1 of full deviation)",
         };
-        format!("{frequency:.2} Hz, amplitude {amplitude:.4}: {verdict}")
+        let amplitude = number(amplitude);
+        format!("{frequency:.1} Hz, amplitude {amplitude}: {verdict}")
     }
 
     fn level(&self) -> String {
         let totals = self.history.totals();
-        let highest = format!("highest {:.4}", totals.highest);
+        let highest = format!("highest {}", number(totals.highest));
         match totals.nan_since {
             Some(at) => format!(
                 "{highest}; NaN since {:.3} s: the decision ({}) holds until a reset",
                 self.seconds(at),
                 lamp(totals.stereo),
             ),
-            None => format!("{highest}, {:.4} at the end", totals.level),
+            None => format!("{highest}, {} at the end", number(totals.level)),
         }
     }
 
@@ -139,6 +137,15 @@ impl Report<'_> {
                 totals.bad_pilot
             ),
         })
+    }
+}
+
+/// A level or an amplitude. A capture of floats may hold anything.
+fn number(value: f64) -> String {
+    if value.abs() < 1e4 {
+        format!("{value:.4}")
+    } else {
+        format!("{value:.3e}")
     }
 }
 
@@ -191,7 +198,7 @@ mod tests {
             "audio      audio.wav",
             "stereo for 0.200 s of 0.300 s, 1 change;",
             "0.200 s  stereo  level 0.0450",
-            "19001.50 Hz, amplitude 0.0900: within BS.450",
+            "19001.5 Hz, amplitude 0.0900: within BS.450",
             "highest 0.0450, 0.0450 at the end",
             "file       torn",
         ] {
