@@ -62,13 +62,8 @@ impl Report<'_> {
             self.seconds(totals.samples),
         );
         let changes = totals.changes;
-        let mut text = format!(
-            "stereo for {stereo:.3} s of {all:.3} s, {changes} {}; \
-             on from a level of {:.4}, off below {:.4}",
-            if changes == 1 { "change" } else { "changes" },
-            self.on,
-            self.off,
-        );
+        let word = if changes == 1 { "change" } else { "changes" };
+        let mut text = format!("stereo for {stereo:.3} s of {all:.3} s, {changes} {word}");
         for change in self.history.changes() {
             let (at, name) = (self.seconds(change.at), lamp(change.stereo));
             let level = number(change.level);
@@ -113,15 +108,17 @@ impl Report<'_> {
 
     fn level(&self) -> String {
         let totals = self.history.totals();
-        let highest = format!("highest {}", number(totals.highest));
-        match totals.nan_since {
-            Some(at) => format!(
-                "{highest}; NaN since {:.3} s: the decision ({}) holds until a reset",
-                self.seconds(at),
-                lamp(totals.stereo),
-            ),
-            None => format!("{highest}, {} at the end", number(totals.level)),
-        }
+        let end = match totals.nan_since {
+            Some(at) => self.level_lost(at),
+            None => format!("{} at the end", number(totals.level)),
+        };
+        let (highest, on, off) = (number(totals.highest), self.on, self.off);
+        format!("highest {highest}, {end}; stereo from {on:.4}, mono below {off:.4}")
+    }
+
+    fn level_lost(&self, at: u64) -> String {
+        let (at, lamp) = (self.seconds(at), lamp(self.history.totals().stereo));
+        format!("NaN since {at:.3} s: the decision ({lamp}) holds until a reset")
     }
 
     fn not_finite(&self) -> Option<String> {
@@ -133,7 +130,7 @@ impl Report<'_> {
         Some(match self.q15 {
             true => format!("{capture}; in Q15 a NaN is 0 and an infinity full scale"),
             false => format!(
-                "{capture}, {} of the filtered pilot; they move neither level nor lamp",
+                "{capture}, {} of the pilot; they move neither level nor lamp",
                 totals.bad_pilot
             ),
         })
@@ -196,7 +193,7 @@ mod tests {
         for words in [
             "capture.wav\n",
             "audio      audio.wav",
-            "stereo for 0.200 s of 0.300 s, 1 change;",
+            "stereo for 0.200 s of 0.300 s, 1 change\n",
             "0.200 s  stereo  level 0.0450",
             "19001.5 Hz, amplitude 0.0900: within BS.450",
             "highest 0.0450, 0.0450 at the end",
@@ -226,7 +223,7 @@ mod tests {
     fn what_is_not_finite_is_counted() {
         let text = report(&[(0.03, true)], 5, false);
         assert!(
-            text.contains("5 samples of the capture, 15 of the filtered pilot"),
+            text.contains("5 samples of the capture, 15 of the pilot"),
             "{text}"
         );
         assert!(report(&[(0.03, true)], 5, true).contains("in Q15 a NaN is 0"));

@@ -27,7 +27,7 @@ fn a_made_capture_locks_and_separates_in_both_formats() {
         let (said, audio) = decode(&folder, &mpx, &["--format", format, "--deemphasis", "none"]);
         assert_eq!((audio.rate, audio.left.len()), (48_000, 57_600));
         let text = said.text();
-        assert!(text.contains("1 change;"), "{text}");
+        assert!(text.contains("1 change\n"), "{text}");
         assert!(
             text.contains("19000.0 Hz, amplitude 0.0900: within BS.450"),
             "{text}"
@@ -151,7 +151,7 @@ fn a_burst_of_nan_passes() {
         let (said, audio) = decode(&folder, &mpx, &["--format", format]);
         let text = said.text();
         assert!(text.contains("1000 samples of the capture"), "{text}");
-        assert!(text.contains("1 change;"), "still stereo: {text}");
+        assert!(text.contains("1 change\n"), "still stereo: {text}");
         assert!(audio.left.iter().chain(&audio.right).all(|x| x.is_finite()));
         let later = Audio {
             left: audio.left[26_400..].to_vec(),
@@ -224,7 +224,7 @@ fn a_capture_scaled_down_says_what_to_set_and_that_helps() {
     for option in [["--level", "0.0351"], ["--gain", "2.56"]] {
         let (said, _) = decode(&folder, &mpx, &option);
         assert!(
-            said.text().contains("1 change;"),
+            said.text().contains("1 change\n"),
             "{option:?}: {}",
             said.text()
         );
@@ -284,7 +284,7 @@ fn every_usual_encoding_is_decoded() {
             "{text}"
         );
         assert!(
-            text.contains("1 change;") && text.contains("within BS.450"),
+            text.contains("1 change\n") && text.contains("within BS.450"),
             "{name}: {text}"
         );
     }
@@ -309,7 +309,7 @@ fn standard_input_takes_wav_and_raw() {
             text.starts_with("standard input: 0.300 s at 192000 Hz"),
             "{text}"
         );
-        assert!(text.contains("1 change;"), "{text}");
+        assert!(text.contains("1 change\n"), "{text}");
     }
 }
 
@@ -364,7 +364,7 @@ fn sixteen_bits_and_other_rates() {
     assert_eq!((read.rate, read.left.len()), (50_000, 7_680));
     // the header may be wrong
     let said = run(&["decode", &capture, "--rate", "192000"]).done();
-    assert!(said.text().contains("1 change;"), "{}", said.text());
+    assert!(said.text().contains("1 change\n"), "{}", said.text());
 }
 
 #[test]
@@ -380,7 +380,7 @@ fn one_of_two_channels_is_chosen() {
     run(&["decode", &capture]).refused(1, "has 2 channels, and a multiplex has one");
     run(&["decode", &capture, "--channel", "3"]).refused(1, "no channel 3");
     let text = run(&["decode", &capture, "--channel", "2"]).done().text();
-    assert!(text.contains("1 change;"), "{text}");
+    assert!(text.contains("1 change\n"), "{text}");
 }
 
 #[test]

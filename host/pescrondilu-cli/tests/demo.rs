@@ -69,7 +69,7 @@ fn it_leaves_its_files_and_a_right_history() {
     }
     let text = said.text();
     assert!(
-        text.contains("7 changes") && text.contains("3840 samples of the capture"),
+        text.contains("7 changes\n") && text.contains("3840 samples of the capture"),
         "{text}"
     );
     assert!(text.contains("amplitude 0.0900: within BS.450"), "{text}");

@@ -115,7 +115,7 @@ fn a_pipe_from_encode_to_decode() {
         &said.out,
     )
     .done();
-    assert!(said.text().contains("1 change;"), "{}", said.text());
+    assert!(said.text().contains("1 change\n"), "{}", said.text());
 }
 
 #[test]

@@ -30,15 +30,11 @@ fn fit(seconds: f64, rate: f64) -> Fit {
     let wanted = 1.0 / (1.0 + (TAU * fitted * seconds).powi(2));
     let cos = (TAU * fitted / rate).cos();
     let ratio = wanted * (1.0 + pole * pole - 2.0 * pole * cos) / (1.0 - pole).powi(2);
-    // (1 - ratio) zero^2 + 2 (cos - ratio) zero + (1 - ratio) = 0: both roots are each other's
-    // inverse, and the one inside the circle can be inverted
+    // (1 - ratio) zero^2 + 2 (cos - ratio) zero + (1 - ratio) = 0. Each root is the inverse of the
+    // other; the one inside the circle is taken, so that the filter can be inverted.
     let half = (cos - ratio) / (1.0 - ratio);
-    let root = (half * half - 1.0).max(0.0).sqrt();
-    let zero = if half > 0.0 {
-        -half + root
-    } else {
-        -half - root
-    };
+    let outer = half + half.signum() * (half * half - 1.0).max(0.0).sqrt();
+    let zero = -1.0 / outer;
     Fit {
         pole,
         zero,
@@ -101,7 +97,9 @@ mod tests {
 
     #[test]
     fn it_is_the_network_within_a_quarter_of_a_decibel() {
-        for rate in [44_100.0, 48_000.0, 50_000.0, 64_000.0] {
+        for rate in [
+            39_200.0, 44_100.0, 48_000.0, 64_000.0, 96_000.0, 192_000.0, 384_000.0,
+        ] {
             for seconds in [50e-6, 75e-6] {
                 for frequency in [100.0, 1_000.0, 3_000.0, 5_000.0, 10_000.0, 15_000.0] {
                     let wanted = 1.0 / (1.0 + (TAU * frequency * seconds).powi(2)).sqrt();
@@ -110,6 +108,17 @@ mod tests {
                     let off = db(gain(Emphasis::pre(seconds, rate), frequency, rate) * wanted);
                     assert!(off.abs() < 0.25, "{off} dB at {frequency} of {rate}, pre");
                 }
+            }
+        }
+    }
+
+    #[test]
+    fn low_rates_of_a_programme_are_stable() {
+        for rate in [1_000.0, 8_000.0, 11_025.0, 22_050.0, 32_000.0] {
+            for emphasis in [Emphasis::pre(75e-6, rate), Emphasis::de(75e-6, rate)] {
+                assert!((gain(emphasis, 0.0, rate) - 1.0).abs() < 1e-3, "{rate}");
+                let there = gain(emphasis, 0.4 * rate, rate);
+                assert!(there > 0.1 && there < 10.0, "{there} at {rate}");
             }
         }
     }

@@ -1,8 +1,11 @@
 //! The lamp's history as a picture: the level with both thresholds, and the lamp below it.
 
+mod scale;
+
 use crate::history::Period;
 use crate::log::lamp;
 use crate::svg::{Canvas, Style};
+use scale::{Scale, ticks};
 
 /// What the picture shows.
 pub struct Plot<'a> {
@@ -35,47 +38,6 @@ const NAN: &str = "#a21caf";
 const STEREO: &str = "#16a34a";
 const MONO: &str = "#cbd2d9";
 const FLICKER: &str = "#f59e0b";
-
-/// From time and level to places in the picture.
-struct Scale {
-    end: f64,
-    top: f64,
-    low: f64,
-    rate: f64,
-}
-
-impl Scale {
-    fn new(plot: &Plot) -> Scale {
-        let last = plot.periods.last();
-        let end = last.map_or(1.0, |p| (p.start + p.samples) as f64 / plot.rate);
-        let levels = plot.periods.iter().filter(|p| p.has_level());
-        let finite = levels
-            .flat_map(|p| [p.least, p.highest])
-            .filter(|level| level.is_finite());
-        let (low, top) = finite.fold((0.0, 1.3 * plot.on), |(low, top): (f64, f64), level| {
-            (low.min(level), top.max(level))
-        });
-        Scale {
-            end,
-            top: top + 0.06 * (top - low),
-            low: 1.06 * low,
-            rate: plot.rate,
-        }
-    }
-
-    fn x(&self, sample: u64) -> f64 {
-        self.x_at(sample as f64 / self.rate)
-    }
-
-    fn x_at(&self, seconds: f64) -> f64 {
-        LEFT + (RIGHT - LEFT) * seconds / self.end
-    }
-
-    fn y(&self, level: f64) -> f64 {
-        let part = (level - self.low) / (self.top - self.low);
-        BOTTOM - (BOTTOM - TOP) * part.clamp(0.0, 1.0)
-    }
-}
 
 impl Plot<'_> {
     pub fn draw(&self) -> String {
@@ -236,34 +198,6 @@ fn time_axis(canvas: &mut Canvas, scale: &Scale) {
     );
 }
 
-/// Round values from `low` to `top`, about `parts` of them, with their text.
-fn ticks(low: f64, top: f64, parts: f64) -> Vec<(f64, String)> {
-    let rough = (top - low) / parts;
-    let ten = 10f64.powf(rough.log10().floor());
-    let steps = [1.0, 2.0, 5.0, 10.0];
-    let step = ten
-        * steps
-            .into_iter()
-            .find(|step| step * ten >= rough)
-            .unwrap_or(10.0);
-    let digits = (-(step.log10() + 1e-9).floor()).clamp(0.0, 12.0) as usize;
-    let (first, last) = ((low / step).ceil() as i64, (top / step).floor() as i64);
-    let value = |n: i64| n as f64 * step;
-    // a bound on the number, should the values be so great that they are no longer apart
-    let places = (first..=last).take(100);
-    places
-        .map(|n| (value(n), label(value(n), step, digits)))
-        .collect()
-}
-
-fn label(value: f64, step: f64, digits: usize) -> String {
-    if step < 1e6 {
-        format!("{value:.digits$}")
-    } else {
-        format!("{value:.0e}")
-    }
-}
-
 #[cfg(test)]
 mod tests {
     use super::*;
@@ -350,22 +284,5 @@ mod tests {
             all_numbers_are_finite(&text);
         }
         well_formed(&drawn(&[]));
-    }
-
-    #[test]
-    fn ticks_are_round() {
-        let text = |low, top, parts| -> Vec<String> {
-            ticks(low, top, parts)
-                .into_iter()
-                .map(|tick| tick.1)
-                .collect()
-        };
-        assert_eq!(
-            text(0.0, 0.05, 6.0),
-            ["0.00", "0.01", "0.02", "0.03", "0.04", "0.05"]
-        );
-        assert_eq!(text(0.0, 12.0, 12.0).len(), 13);
-        assert_eq!(text(0.0, 3_600.0, 12.0)[1], "500");
-        assert_eq!(text(-0.5, 1.0, 3.0), ["-0.5", "0.0", "0.5", "1.0"]);
     }
 }
