@@ -3,6 +3,9 @@
 //! A table has 4097 entries: entry i is cos(2 pi i / 4096), and the last entry is the first one
 //! again, so that each entry has a right neighbour. The core takes any table; the calls that end in
 //! `_with` lend one of yours.
+//!
+//! A table is made when it is first asked for. Where no block may wait for that, ask for it at the
+//! start of the program.
 
 use core::f64::consts::TAU;
 use std::sync::OnceLock;

@@ -4,7 +4,7 @@ use core::f64::consts::PI;
 
 use pescrondilu_sys::decoder::{self as sys, Decoder, Readout, Sample as _, Way};
 
-use super::pairs::{PIECE, join, same_input, same_output};
+use super::pairs::{LONG, SHORT, join, same_input, same_output};
 use crate::Proved;
 use crate::error::{Refusal, Result, accepted, coded};
 use crate::rate::Rate;
@@ -259,9 +259,9 @@ impl<T: RealSample> StereoPllState<T> {
     }
 
     /// One block, with the crate's table. `mpx` is the multiplex signal and `pilot` the same signal
-    /// through the pilot's band-pass. `sum` becomes `mpx`; `difference` becomes `mpx` times the sine
-    /// of twice the phase while the decision is stereo and the difference is on, and 0 otherwise.
-    /// A pilot sample that is not finite leaves the level and the decision.
+    /// through the pilot's band-pass. `sum` becomes `mpx`; `difference` becomes `mpx` times the
+    /// sine of twice the phase while the decision is stereo and the difference is on, and 0
+    /// otherwise. A pilot sample that is not finite leaves the level and the decision.
     ///
     /// # Errors
     /// The causes 10 and 11, for Q15 also 0 first; state and outputs stay.
@@ -401,14 +401,29 @@ impl<T: RealSample> StereoPll<T> for Proved {
             same_input(n, pilot.len())?;
             return Ok(same_output(n, output.len())?);
         }
-        let (mut sum, mut difference) = ([T::ZERO; PIECE], [T::ZERO; PIECE]);
-        let inputs = mpx.chunks(PIECE).zip(pilot.chunks(PIECE));
-        for ((m, p), o) in inputs.zip(output.chunks_mut(PIECE)) {
-            let (s, d) = (&mut sum[..m.len()], &mut difference[..m.len()]);
-            // Only the first piece can be refused, for the record: a block leaves it fit.
-            state.process(m, p, s, d)?;
-            join(s, d, o);
-        }
-        Ok(())
+        let run = if n <= SHORT {
+            in_pieces::<T, SHORT>
+        } else {
+            in_pieces::<T, LONG>
+        };
+        Ok(run(state, mpx, pilot, output)?)
     }
+}
+
+/// A block of equal lengths, `N` samples at a time. Only the first piece can be refused, for the
+/// record: a block leaves it fit.
+fn in_pieces<T: RealSample, const N: usize>(
+    state: &mut StereoPllState<T>,
+    mpx: &[T],
+    pilot: &[T],
+    output: &mut [T::Complex],
+) -> core::result::Result<(), Refusal> {
+    let (mut sum, mut difference) = ([T::ZERO; N], [T::ZERO; N]);
+    let inputs = mpx.chunks(N).zip(pilot.chunks(N));
+    for ((m, p), o) in inputs.zip(output.chunks_mut(N)) {
+        let (s, d) = (&mut sum[..m.len()], &mut difference[..m.len()]);
+        state.process(m, p, s, d)?;
+        join(s, d, o);
+    }
+    Ok(())
 }

@@ -2,7 +2,7 @@
 
 use pescrondilu_sys::encoder as sys;
 
-use super::pairs::{PIECE, same_input, same_output, split};
+use super::pairs::{LONG, SHORT, same_input, same_output, split};
 use crate::Proved;
 use crate::error::{Refusal, Result, accepted, coded};
 use crate::kernels::mix::Nco;
@@ -205,14 +205,28 @@ impl StereoEncode for Proved {
         output: &mut [f32],
     ) -> Result<()> {
         same_output(input.len(), output.len())?;
-        let (mut left, mut right) = ([0.0; PIECE], [0.0; PIECE]);
-        for (i, o) in input.chunks(PIECE).zip(output.chunks_mut(PIECE)) {
-            let (l, r) = (&mut left[..i.len()], &mut right[..i.len()]);
-            split(i, l, r);
-            state.process(l, r, o)?;
-        }
-        Ok(())
+        let run = if input.len() <= SHORT {
+            in_pieces::<SHORT>
+        } else {
+            in_pieces::<LONG>
+        };
+        Ok(run(state, input, output)?)
     }
+}
+
+/// Equal lengths, `N` pairs at a time.
+fn in_pieces<const N: usize>(
+    state: &mut StereoEncodeState,
+    input: &[C32],
+    output: &mut [f32],
+) -> core::result::Result<(), Refusal> {
+    let (mut left, mut right) = ([0.0; N], [0.0; N]);
+    for (i, o) in input.chunks(N).zip(output.chunks_mut(N)) {
+        let (l, r) = (&mut left[..i.len()], &mut right[..i.len()]);
+        split(i, l, r);
+        state.process(l, r, o)?;
+    }
+    Ok(())
 }
 
 /// The stereo encoder with RDS: an encoder, and the level of the RDS subcarrier.
@@ -408,15 +422,30 @@ impl StereoEncodeRds for Proved {
     ) -> Result<()> {
         same_input(input.len(), rds.len())?;
         same_output(input.len(), output.len())?;
-        let (mut left, mut right) = ([0.0; PIECE], [0.0; PIECE]);
-        let inputs = input.chunks(PIECE).zip(rds.chunks(PIECE));
-        for ((i, b), o) in inputs.zip(output.chunks_mut(PIECE)) {
-            let (l, r) = (&mut left[..i.len()], &mut right[..i.len()]);
-            split(i, l, r);
-            state.process(l, r, b, o)?;
-        }
-        Ok(())
+        let run = if input.len() <= SHORT {
+            rds_in_pieces::<SHORT>
+        } else {
+            rds_in_pieces::<LONG>
+        };
+        Ok(run(state, input, rds, output)?)
     }
+}
+
+/// Equal lengths, `N` pairs at a time.
+fn rds_in_pieces<const N: usize>(
+    state: &mut StereoEncodeRdsState,
+    input: &[C32],
+    rds: &[f32],
+    output: &mut [f32],
+) -> core::result::Result<(), Refusal> {
+    let (mut left, mut right) = ([0.0; N], [0.0; N]);
+    let inputs = input.chunks(N).zip(rds.chunks(N));
+    for ((i, b), o) in inputs.zip(output.chunks_mut(N)) {
+        let (l, r) = (&mut left[..i.len()], &mut right[..i.len()]);
+        split(i, l, r);
+        state.process(l, r, b, o)?;
+    }
+    Ok(())
 }
 
 /// Whether a pilot of this amplitude is on the air as ITU-R BS.450 has it: from 8 to 10 per cent,

@@ -2,7 +2,7 @@
 
 use pescrondilu_sys::decoder as sys;
 
-use super::pairs::{PIECE, join, same_output, split};
+use super::pairs::{LONG, SHORT, join, same_output, split};
 use crate::Proved;
 use crate::error::{Refusal, Result, accepted};
 use crate::types::{ComplexSample, RealSample, Sample};
@@ -61,15 +61,28 @@ pub trait StereoMatrix<T: ComplexSample> {
 impl<T: ComplexSample> StereoMatrix<T> for Proved {
     fn stereo_matrix(&self, input: &[T], output: &mut [T]) -> Result<()> {
         same_output(input.len(), output.len())?;
-        let (mut sum, mut difference) = ([T::Real::ZERO; PIECE], [T::Real::ZERO; PIECE]);
-        let (mut left, mut right) = ([T::Real::ZERO; PIECE], [T::Real::ZERO; PIECE]);
-        for (i, o) in input.chunks(PIECE).zip(output.chunks_mut(PIECE)) {
-            let n = i.len();
-            let (l, r) = (&mut left[..n], &mut right[..n]);
-            split(i, &mut sum[..n], &mut difference[..n]);
-            matrix(&sum[..n], &difference[..n], l, r)?;
-            join(l, r, o);
-        }
-        Ok(())
+        let run = if input.len() <= SHORT {
+            in_pieces::<T, SHORT>
+        } else {
+            in_pieces::<T, LONG>
+        };
+        Ok(run(input, output)?)
     }
+}
+
+/// Equal lengths, `N` pairs at a time.
+fn in_pieces<T: ComplexSample, const N: usize>(
+    input: &[T],
+    output: &mut [T],
+) -> core::result::Result<(), Refusal> {
+    let (mut sum, mut difference) = ([T::Real::ZERO; N], [T::Real::ZERO; N]);
+    let (mut left, mut right) = ([T::Real::ZERO; N], [T::Real::ZERO; N]);
+    for (i, o) in input.chunks(N).zip(output.chunks_mut(N)) {
+        let n = i.len();
+        let (l, r) = (&mut left[..n], &mut right[..n]);
+        split(i, &mut sum[..n], &mut difference[..n]);
+        matrix(&sum[..n], &difference[..n], l, r)?;
+        join(l, r, o);
+    }
+    Ok(())
 }

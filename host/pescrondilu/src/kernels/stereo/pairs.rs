@@ -3,17 +3,19 @@
 use crate::error::Refusal;
 use crate::types::ComplexSample;
 
-/// Samples that go through the scratch at a time. The scratch is zeroed at each call, which a
-/// larger one makes dear for short blocks; a smaller one calls the core more often. docs/ADOPT.md
-/// has the times.
-pub(super) const PIECE: usize = 64;
+/// Samples that go through the scratch at a time. The scratch is zeroed at each call, which takes
+/// longer for a larger one, and a smaller one calls the core more often. Of 4 to 256, 64 was best
+/// for blocks of 64 and of 4096.
+pub(super) const LONG: usize = 64;
+/// The scratch of a block that is no longer than this, where the zeroing weighs most.
+pub(super) const SHORT: usize = 8;
 
-/// Cause 10 for an input beside the first one, with the core's words.
+/// Cause 10, for an input beside the first one.
 pub(super) fn same_input(expected: usize, got: usize) -> Result<(), Refusal> {
     same(10, expected, got)
 }
 
-/// Cause 11 for an output.
+/// Cause 11, for an output.
 pub(super) fn same_output(expected: usize, got: usize) -> Result<(), Refusal> {
     same(11, expected, got)
 }
