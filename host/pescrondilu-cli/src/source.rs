@@ -237,6 +237,16 @@ mod tests {
     }
 
     #[test]
+    fn a_piece_stays_small_whatever_the_header_says() {
+        let mut source = from_bytes(wav_bytes(1_000, u32::MAX, &[7; 1_000_000]), None).unwrap();
+        let mut channels = vec![Vec::new(); 2];
+        assert_eq!(source.read(1 << 14, &mut channels).unwrap(), 524);
+        assert_eq!(channels[1].len(), 524);
+        let mut wide = from_bytes(wav_bytes(30_000, u32::MAX, &[7; 60_000]), None).unwrap();
+        assert_eq!(wide.read(1 << 14, &mut channels).unwrap(), 2);
+    }
+
+    #[test]
     fn what_follows_the_samples_is_not_read() {
         let mut source = from_bytes(wav_bytes(1, 4, &[16_384, 16_384, 1, 2]), None).unwrap();
         assert_eq!(all(&mut source, 8), [[0.5, 0.5]]);

@@ -81,15 +81,11 @@ impl Order {
             ));
         };
         let text = |name: &str| args.text(name).map(String::from);
-        let raw = [
-            ("none", None),
-            ("f32", Some(Encoding::F32)),
-            ("s16", Some(Encoding::S16)),
-        ];
+        let raw = || args.choice("--raw", &[("f32", Encoding::F32), ("s16", Encoding::S16)]);
         let deemphasis = [("50", Some(50e-6)), ("75", Some(75e-6)), ("none", None)];
         let order = Order {
             output: text("-o").or_else(|| text("--output")),
-            raw: args.choice("--raw", &raw)?,
+            raw: args.text("--raw").map(|_| raw()).transpose()?,
             rate: args.number("--rate")?,
             channel: channel(&args)?,
             core: args.choice("--format", &[("f32", Core::F32), ("q15", Core::Q15)])?,
@@ -180,7 +176,7 @@ mod tests {
             ("", "wants one capture"),
             ("a b", "wants one capture"),
             ("a --raw f32", "--raw wants --rate"),
-            ("a --raw f64 --rate 1", "none of none, f32, s16"),
+            ("a --raw f64 --rate 1", "none of f32, s16"),
             ("a --deemphasis 60", "none of 50, 75, none"),
             ("a --format f64", "none of f32, q15"),
             ("a --natural 0", "--natural wants"),

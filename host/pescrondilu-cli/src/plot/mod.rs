@@ -265,6 +265,10 @@ mod tests {
             assert!(text.contains(word), "{word}");
         }
         all_numbers_are_finite(&text);
+        // each once in the legend and once where it was
+        for mark in [BAD, NAN, FLICKER] {
+            assert_eq!(text.matches(mark).count(), 2, "{mark}");
+        }
         // the NaN parts the level in two
         assert_eq!(text.matches("<path").count(), 2);
     }
