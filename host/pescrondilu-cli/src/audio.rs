@@ -12,6 +12,8 @@ use crate::format::{Format, fill, fill_f32};
 /// Audio passes whole up to here.
 const AUDIO_HZ: f64 = 15_000.0;
 /// The low-pass stops from here: the pilot, and RDS, which the loop brings from 57 to 19 kHz.
+/// With these filters left and right are more than 96 dB apart; what limits the separation is the
+/// loop's own ripple at 38 kHz, which is proportional to its natural frequency.
 const STOP_HZ: f64 = 17_800.0;
 
 /// Left and right.

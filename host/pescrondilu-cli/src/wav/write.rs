@@ -1,6 +1,6 @@
 //! Writes a WAV file, or raw samples to standard output.
 
-use std::io::{self, BufWriter, Stdout, Write};
+use std::io::{self, BufWriter, IsTerminal, Stdout, Write};
 
 use super::encoding::to_i16;
 use crate::draft::Draft;
@@ -53,6 +53,11 @@ impl Writer {
     /// A WAV file, or raw samples where the name is `-`.
     pub fn create(name: &str, shape: Shape) -> Outcome<Writer> {
         let target = if name == "-" {
+            if io::stdout().is_terminal() {
+                return Err(Fault::usage(
+                    "raw samples do not go to a terminal; name a file",
+                ));
+            }
             Target::Raw(BufWriter::with_capacity(1 << 16, io::stdout()))
         } else {
             let mut draft = Draft::create(name)?;
