@@ -114,17 +114,18 @@ impl Order {
                 "only the audio goes to standard output (-o -)",
             ));
         }
-        let mut outputs = [&self.output, &self.log, &self.plot].into_iter().flatten();
-        let mut names: Vec<&String> = Vec::new();
-        outputs.try_for_each(|name| {
-            if names.contains(&name) || same_file(name, &self.input) {
-                return Err(Fault::usage(format!(
-                    "{name} would be written over another file"
-                )));
+        let outputs = [&self.output, &self.log, &self.plot];
+        let names: Vec<&String> = outputs.into_iter().flatten().collect();
+        for (at, name) in names.iter().enumerate() {
+            if names[..at].contains(name) {
+                return Err(Fault::usage(format!("{name} is named for two outputs")));
             }
-            names.push(name);
-            Ok(())
-        })
+            if same_file(name, &self.input) {
+                let why = "is the capture itself and would be written over";
+                return Err(Fault::usage(format!("{name} {why}")));
+            }
+        }
+        Ok(())
     }
 }
 
@@ -185,7 +186,7 @@ mod tests {
             ("a --channel 0", "counts from 1"),
             ("a --channel 1.5", "counts from 1"),
             ("a --log -", "only the audio"),
-            ("a -o b --log b", "written over"),
+            ("a -o b --log b", "named for two outputs"),
         ] {
             let fault = parse(line).unwrap_err();
             assert!(matches!(fault, Fault::Usage(_)), "{line}");
