@@ -53,8 +53,8 @@ it was until then.
 Examples
   pescrondilu decode capture.wav -o audio.wav --log lamp.csv --plot lamp.svg
   pescrondilu decode capture.raw --raw f32 --rate 192000 --format q15
-  rtl_fm -M fm -f 98.1M -s 192k | pescrondilu decode - --raw s16 --rate 192000 --gain 2.56
-    (at this rate the full deviation of rtl_fm is 0.39, so 2.56 brings it to 1)
+  demodulator | pescrondilu decode - --raw s16 --rate 192000 --gain 2.56 -o audio.wav
+    (2.56 is for a demodulator whose full deviation is 0.39 of full scale)
 ";
 
 pub const ENCODE: &str = "\
