@@ -1,0 +1,270 @@
+//! A stereo receiver from the multiplex on: the pilot's band-pass, the proved loop, then the audio.
+
+use pescrondilu::Rate;
+use pescrondilu::kernels::stereo::StereoPllState;
+
+use crate::audio::{AudioPath, Stereo};
+use crate::fault::{Fault, Outcome};
+use crate::filter::design::band_pass;
+use crate::filter::fir::Fir;
+use crate::format::{Format, fill, fill_f32};
+
+pub const PILOT_HZ: f64 = 19_000.0;
+/// The band-pass stops from this far to either side: programme begins 4 kHz away.
+const PILOT_REACH_HZ: f64 = 4_000.0;
+/// Below this rate what the loop makes around 76 kHz would fold into the audio.
+pub const LEAST_RATE: f64 = 110_000.0;
+pub const HIGHEST_RATE: f64 = 4_000_000.0;
+
+/// Settings of the loop and of what stands around it.
+#[derive(Clone, Copy, Debug)]
+pub struct Settings {
+    pub rate: f64,
+    /// The loop's natural frequency in hertz.
+    pub natural: f64,
+    /// The pilot's nominal amplitude.
+    pub level: f64,
+    /// The time constant in seconds.
+    pub deemphasis: Option<f64>,
+    /// Samples of one call of the core, after each of which the lamp is looked at.
+    pub block: usize,
+}
+
+/// What is seen after each block.
+#[derive(Clone, Copy, Debug)]
+pub struct Sight {
+    pub samples: usize,
+    /// The lock level, half the pilot's amplitude.
+    pub level: f64,
+    /// The pilot's distance from 19 kHz.
+    pub offset_hz: f64,
+    pub stereo: bool,
+    /// Capture samples that are NaN or infinite.
+    pub bad: usize,
+    /// Pilot samples that are; the core passes over them.
+    pub bad_pilot: usize,
+}
+
+pub struct Receiver<T: Format> {
+    settings: Settings,
+    pll: StereoPllState<T>,
+    band: Fir,
+    /// The multiplex that waits for its pilot.
+    waiting: Vec<f32>,
+    audio: AudioPath<T>,
+    /// Samples that went through the loop. Blocks end at its multiples of `block`, however the
+    /// capture comes in pieces.
+    done: u64,
+    work: Work<T>,
+}
+
+/// Room that each call uses again.
+#[derive(Default)]
+struct Work<T> {
+    input: Vec<f32>,
+    pilot: Vec<f32>,
+    mpx: Vec<T>,
+    pilot_t: Vec<T>,
+    sum: Vec<T>,
+    difference: Vec<T>,
+}
+
+impl<T: Format> Receiver<T> {
+    /// An error is its reason in words.
+    pub fn new(settings: Settings) -> Result<Receiver<T>, String> {
+        let Settings {
+            rate,
+            natural,
+            level,
+            ..
+        } = settings;
+        if !(LEAST_RATE..=HIGHEST_RATE).contains(&rate) {
+            let range = format!("{LEAST_RATE} to {HIGHEST_RATE} Hz");
+            return Err(format!(
+                "the rate is {rate} Hz; a multiplex is decoded at {range}"
+            ));
+        }
+        let pll = Rate::from_f64(rate)
+            .and_then(|rate| StereoPllState::new(PILOT_HZ, natural, level, rate))
+            .map_err(|why| why.to_string())?;
+        Ok(Receiver {
+            settings,
+            pll,
+            band: Fir::new(&band_pass(PILOT_HZ, PILOT_REACH_HZ, rate), 1),
+            waiting: Vec::new(),
+            audio: AudioPath::new(rate, settings.deemphasis),
+            done: 0,
+            work: Work::default(),
+        })
+    }
+
+    pub fn decimation(&self) -> usize {
+        self.audio.decimation()
+    }
+
+    /// The levels at which the lamp goes on and off.
+    pub fn thresholds(&self) -> (f64, f64) {
+        let coefficients = self.pll.coefficients();
+        (coefficients.on, coefficients.off)
+    }
+
+    /// Takes a piece of the multiplex; tells `see` of each block and appends to `audio`.
+    pub fn run(
+        &mut self,
+        mpx: &[f32],
+        see: &mut dyn FnMut(Sight) -> Outcome<()>,
+        audio: &mut Stereo,
+    ) -> Outcome<()> {
+        self.waiting.extend_from_slice(mpx);
+        self.quantize(mpx);
+        self.work.pilot.clear();
+        self.band.run(&self.work.input, &mut self.work.pilot);
+        self.decode(see)?;
+        self.sides(false, audio)
+    }
+
+    /// The last pieces, which the filters still hold.
+    pub fn finish(
+        &mut self,
+        see: &mut dyn FnMut(Sight) -> Outcome<()>,
+        audio: &mut Stereo,
+    ) -> Outcome<()> {
+        self.work.pilot.clear();
+        self.band.finish(&mut self.work.pilot);
+        self.decode(see)?;
+        self.sides(true, audio)
+    }
+
+    /// The band-pass sees what the core sees: in Q15 the rounded capture.
+    fn quantize(&mut self, mpx: &[f32]) {
+        fill(&mut self.work.mpx, mpx);
+        fill_f32(&mut self.work.input, &self.work.mpx);
+    }
+
+    /// The proved loop, over as much of the multiplex as has its pilot.
+    fn decode(&mut self, see: &mut dyn FnMut(Sight) -> Outcome<()>) -> Outcome<()> {
+        let n = self.work.pilot.len();
+        let Work {
+            pilot,
+            mpx,
+            pilot_t,
+            sum,
+            difference,
+            ..
+        } = &mut self.work;
+        fill(mpx, &self.waiting[..n]);
+        fill(pilot_t, pilot);
+        sum.resize(n, T::ZERO);
+        difference.resize(n, T::ZERO);
+        let mut from = 0;
+        while from < n {
+            let block = self.settings.block;
+            let to = (from + block - (self.done % block as u64) as usize).min(n);
+            let (s, d) = (&mut sum[from..to], &mut difference[from..to]);
+            self.pll
+                .process(&mpx[from..to], &pilot_t[from..to], s, d)
+                .map_err(core_fault)?;
+            see(Sight {
+                samples: to - from,
+                level: self.pll.lock_level(),
+                offset_hz: self.pll.integrator() * self.settings.rate,
+                stereo: self.pll.is_stereo(),
+                bad: not_finite(&self.waiting[from..to]),
+                bad_pilot: not_finite(&pilot[from..to]),
+            })?;
+            self.done += (to - from) as u64;
+            from = to;
+        }
+        self.waiting.drain(..n);
+        Ok(())
+    }
+
+    fn sides(&mut self, last: bool, audio: &mut Stereo) -> Outcome<()> {
+        let wide = [&self.work.sum[..], &self.work.difference[..]];
+        self.audio.run(wide, last, audio).map_err(core_fault)
+    }
+}
+
+fn not_finite(samples: &[f32]) -> usize {
+    samples.iter().filter(|sample| !sample.is_finite()).count()
+}
+
+/// The lengths are ours, so a refusal of a block is a fault of this program.
+fn core_fault(why: pescrondilu::Refusal) -> Fault {
+    Fault::failed("the core refused a block", why)
+}
+
+#[cfg(test)]
+mod tests {
+    use super::*;
+
+    const SETTINGS: Settings = Settings {
+        rate: 192_000.0,
+        natural: 20.0,
+        level: 0.1,
+        deemphasis: None,
+        block: 192,
+    };
+
+    #[test]
+    fn what_the_core_or_the_filters_cannot_take_is_refused() {
+        let said = |settings| Receiver::<f32>::new(settings).err().unwrap();
+        assert!(
+            said(Settings {
+                rate: 48_000.0,
+                ..SETTINGS
+            })
+            .contains("48000 Hz")
+        );
+        assert!(
+            said(Settings {
+                rate: 4e9,
+                ..SETTINGS
+            })
+            .contains("4000000000 Hz")
+        );
+        assert!(
+            said(Settings {
+                natural: 500.0,
+                ..SETTINGS
+            })
+            .contains("natural")
+        );
+        assert!(
+            said(Settings {
+                level: 2.0,
+                ..SETTINGS
+            })
+            .contains("level")
+        );
+    }
+
+    #[test]
+    fn audio_and_sights_are_as_long_as_the_capture() {
+        for pieces in [1, 100, 5_000] {
+            let mut receiver = Receiver::<f32>::new(SETTINGS).unwrap();
+            let (mut seen, mut audio) = (0, Stereo::default());
+            let mut see = |sight: Sight| {
+                seen += sight.samples;
+                Ok(())
+            };
+            for piece in vec![0.25; 5_001].chunks(pieces) {
+                receiver.run(piece, &mut see, &mut audio).unwrap();
+            }
+            receiver.finish(&mut see, &mut audio).unwrap();
+            assert_eq!(
+                (seen, audio[0].len(), audio[1].len()),
+                (5_001, 1_251, 1_251)
+            );
+            // mono, away from the ends: both sides are the multiplex itself
+            assert!(
+                audio
+                    .iter()
+                    .flatten()
+                    .skip(100)
+                    .take(1_000)
+                    .all(|x| (x - 0.25).abs() < 1e-5)
+            );
+        }
+    }
+}

@@ -1,0 +1,403 @@
+//! `pescrondilu decode` on made captures.
+
+mod common;
+
+use common::*;
+use std::fs;
+
+/// Decodes a capture to audio with further options.
+fn decode(folder: &Folder, mpx: &[f32], options: &[&str]) -> (Said, Audio) {
+    let (capture, audio) = (folder.file("mpx.wav"), folder.file("audio.wav"));
+    write_wav(&capture, RATE, &[mpx]);
+    let mut words = vec!["decode", &capture, "-o", &audio];
+    words.extend(options);
+    let said = run(&words).done();
+    (said, read_audio(&audio))
+}
+
+#[test]
+fn a_made_capture_locks_and_separates_in_both_formats() {
+    let folder = Folder::new("separates");
+    let mpx = Multiplex {
+        seconds: 1.2,
+        ..Multiplex::default()
+    }
+    .make();
+    for format in ["f32", "q15"] {
+        let (said, audio) = decode(&folder, &mpx, &["--format", format, "--deemphasis", "none"]);
+        assert_eq!((audio.rate, audio.left.len()), (48_000, 57_600));
+        let text = said.text();
+        assert!(text.contains("1 change\n"), "{text}");
+        assert!(
+            text.contains("19000.0 Hz, amplitude 0.0900: within BS.450"),
+            "{text}"
+        );
+        let apart = separation(&audio, 1_000.0, 0.5);
+        println!("{format}: {apart:.1} dB at 1 kHz");
+        assert!(apart > 60.0, "{format}: {apart}");
+        let level = amplitude(&audio.left[24_000..], 1_000.0, 48_000);
+        assert!((level - 0.45).abs() < 0.001, "{format}: {level}");
+    }
+}
+
+#[test]
+fn a_slower_loop_separates_better_and_all_tones_separate() {
+    let folder = Folder::new("slower");
+    for (natural, frequency, least) in [
+        ("5", 1_000.0, 72.0),
+        ("20", 100.0, 60.0),
+        ("20", 15_000.0, 60.0),
+    ] {
+        let tones = [frequency, frequency];
+        let mpx = Multiplex {
+            tones,
+            ..Multiplex::default()
+        }
+        .make();
+        let (_, audio) = decode(
+            &folder,
+            &mpx,
+            &["--natural", natural, "--deemphasis", "none"],
+        );
+        let apart = separation(&audio, frequency, 0.5);
+        println!("{frequency} Hz, natural {natural} Hz: {apart:.1} dB");
+        assert!(apart > least, "{frequency} Hz at {natural}: {apart}");
+    }
+}
+
+#[test]
+fn q15_is_beside_f32() {
+    let folder = Folder::new("beside");
+    let (right, tones) = (0.3, [1_000.0, 400.0]);
+    let mpx = Multiplex {
+        right,
+        tones,
+        seconds: 0.5,
+        ..Multiplex::default()
+    }
+    .make();
+    let (_, float) = decode(&folder, &mpx, &[]);
+    let (_, integer) = decode(&folder, &mpx, &["--format", "q15"]);
+    let sides = [(&float.left, &integer.left), (&float.right, &integer.right)];
+    for (one, other) in sides {
+        let pairs = one.iter().zip(other).skip(4_800);
+        let worst = pairs.map(|(a, b)| (a - b).abs()).fold(0.0, f32::max);
+        assert!(worst > 0.0 && worst < 0.002, "{worst}");
+    }
+}
+
+#[test]
+fn it_locks_soon_and_audio_stands_in_its_place() {
+    let folder = Folder::new("soon");
+    let mpx = Multiplex {
+        right: 0.5,
+        ..Multiplex::default()
+    }
+    .make();
+    let (said, audio) = decode(&folder, &mpx, &["--deemphasis", "none"]);
+    let text = said.text();
+    let line = text
+        .lines()
+        .find(|line| line.contains("s  stereo"))
+        .unwrap();
+    let at: f64 = line.split_whitespace().next().unwrap().parse().unwrap();
+    println!("stereo after {at} s");
+    assert!(at > 0.02 && at < 0.05, "{line}");
+    // no delay: the tone is in phase with the one that was put in
+    let wanted = tone(1_000.0, 48_000, 1.0, 0.45);
+    let pairs = audio.left.iter().zip(&wanted).skip(12_000).take(30_000);
+    let worst = pairs.map(|(a, b)| (a - b).abs()).fold(0.0, f32::max);
+    assert!(worst < 0.002, "{worst}");
+}
+
+#[test]
+fn the_pilot_s_frequency_is_found() {
+    let folder = Folder::new("offset");
+    let (pilot_hz, pilot) = (19_003.0, 0.12);
+    let mpx = Multiplex {
+        pilot_hz,
+        pilot,
+        ..Multiplex::default()
+    }
+    .make();
+    let log = folder.file("log.csv");
+    let (said, _) = decode(&folder, &mpx, &["--log", &log]);
+    let text = said.text();
+    assert!(text.contains("19003.0 Hz, amplitude 0.1199"), "{text}");
+    assert!(text.contains("outside BS.450"), "{text}");
+    let text = fs::read_to_string(log).unwrap();
+    let offset: f64 = text
+        .lines()
+        .last()
+        .unwrap()
+        .rsplit(',')
+        .next()
+        .unwrap()
+        .parse()
+        .unwrap();
+    assert!((offset - 3.0).abs() < 0.1, "{offset}");
+}
+
+#[test]
+fn a_burst_of_nan_passes() {
+    let folder = Folder::new("burst");
+    for (format, pattern) in [
+        ("f32", 0xFFC0_0000u32),
+        ("f32", 0x7F80_0000),
+        ("q15", 0xFFC0_0000),
+    ] {
+        let mut mpx = Multiplex::default().make();
+        mpx[96_000..97_000].fill(f32::from_bits(pattern));
+        let (said, audio) = decode(&folder, &mpx, &["--format", format]);
+        let text = said.text();
+        assert!(text.contains("1000 samples of the capture"), "{text}");
+        assert!(text.contains("1 change\n"), "still stereo: {text}");
+        assert!(audio.left.iter().chain(&audio.right).all(|x| x.is_finite()));
+        let later = Audio {
+            left: audio.left[26_400..].to_vec(),
+            right: audio.right[26_400..].to_vec(),
+            ..audio
+        };
+        assert!(
+            separation(&later, 1_000.0, 0.0) > 50.0,
+            "{format} {pattern:x}"
+        );
+    }
+}
+
+#[test]
+fn without_deemphasis_a_nan_is_gone_after_the_filters() {
+    let folder = Folder::new("gone");
+    let mut mpx = Multiplex {
+        seconds: 0.5,
+        ..Multiplex::default()
+    }
+    .make();
+    mpx[48_000] = f32::NAN;
+    let (_, audio) = decode(&folder, &mpx, &["--deemphasis", "none"]);
+    let bad: Vec<usize> = (0..audio.left.len())
+        .filter(|&i| !audio.left[i].is_finite())
+        .collect();
+    assert!(bad.contains(&12_000));
+    assert!(bad[0] > 11_900 && bad[bad.len() - 1] < 12_100, "{bad:?}");
+}
+
+#[test]
+fn a_mono_capture_stays_mono() {
+    let folder = Folder::new("mono");
+    let (pilot, right) = (0.0, 0.3);
+    let mpx = Multiplex {
+        pilot,
+        right,
+        seconds: 0.5,
+        ..Multiplex::default()
+    }
+    .make();
+    let (said, audio) = decode(&folder, &mpx, &[]);
+    assert!(
+        said.text()
+            .contains("stereo for 0.000 s of 0.500 s, 0 changes")
+    );
+    assert!(
+        said.text().contains("no pilot was found"),
+        "{}",
+        said.text()
+    );
+    assert_eq!(audio.left, audio.right);
+}
+
+#[test]
+fn a_capture_scaled_down_says_what_to_set_and_that_helps() {
+    let folder = Folder::new("scaled");
+    let mpx: Vec<f32> = Multiplex::default()
+        .make()
+        .iter()
+        .map(|x| 0.39 * x)
+        .collect();
+    let (said, _) = decode(&folder, &mpx, &[]);
+    let text = said.text();
+    assert!(text.contains("the level never reached 0.0200"), "{text}");
+    assert!(
+        text.contains("set --level 0.0351, or --gain 2.56"),
+        "{text}"
+    );
+    for option in [["--level", "0.0351"], ["--gain", "2.56"]] {
+        let (said, _) = decode(&folder, &mpx, &option);
+        assert!(
+            said.text().contains("1 change\n"),
+            "{option:?}: {}",
+            said.text()
+        );
+    }
+}
+
+#[test]
+fn a_level_that_becomes_nan_is_told() {
+    let folder = Folder::new("nan");
+    // the level climbs to half of it; then the pilot turns over, and the step down overflows
+    let mut pilot = tone(19_000.0, RATE, 0.5, 3.3e38);
+    pilot[60_000..].iter_mut().for_each(|x| *x = -*x);
+    let (said, _) = decode(&folder, &pilot, &[]);
+    let text = said.text();
+    assert!(text.contains("decision (mono)"), "{text}");
+    assert!(
+        text.contains("NaN since") && text.contains("holds until a reset"),
+        "{text}"
+    );
+}
+
+#[test]
+fn every_usual_encoding_is_decoded() {
+    let folder = Folder::new("encodings");
+    let mpx = Multiplex {
+        seconds: 0.3,
+        ..Multiplex::default()
+    }
+    .make();
+    let whole = |scale: f64| move |x: &f32| (f64::from(*x) * scale).round() as i32;
+    let pcm8: Vec<u8> = mpx.iter().map(|x| (whole(128.0)(x) + 128) as u8).collect();
+    let pcm24 = mpx
+        .iter()
+        .flat_map(|x| whole(8_388_608.0)(x).to_le_bytes()[..3].to_vec());
+    let pcm32 = mpx
+        .iter()
+        .flat_map(|x| whole(2_147_483_648.0)(x).to_le_bytes());
+    let f64s = mpx.iter().flat_map(|x| f64::from(*x).to_le_bytes());
+    for (name, bytes) in [
+        ("PCM 8 bits", wav(1, 8, 1, RATE, &pcm8)),
+        ("PCM 16 bits", wav(1, 16, 1, RATE, &s16_bytes(&mpx))),
+        (
+            "PCM 24 bits",
+            wav(1, 24, 1, RATE, &pcm24.collect::<Vec<u8>>()),
+        ),
+        (
+            "PCM 32 bits",
+            wav(1, 32, 1, RATE, &pcm32.collect::<Vec<u8>>()),
+        ),
+        ("f64", wav(3, 64, 1, RATE, &f64s.collect::<Vec<u8>>())),
+    ] {
+        let capture = folder.file("capture.wav");
+        fs::write(&capture, bytes).unwrap();
+        let text = run(&["decode", &capture]).done().text();
+        assert!(
+            text.contains(&format!("0.300 s at 192000 Hz ({name})")),
+            "{text}"
+        );
+        assert!(
+            text.contains("1 change\n") && text.contains("within BS.450"),
+            "{name}: {text}"
+        );
+    }
+}
+
+#[test]
+fn standard_input_takes_wav_and_raw() {
+    let mpx = Multiplex {
+        seconds: 0.3,
+        ..Multiplex::default()
+    }
+    .make();
+    let raw = ["--rate", "192000", "--raw"];
+    for (options, bytes) in [
+        (vec![], wav(3, 32, 1, RATE, &f32_bytes(&mpx))),
+        ([&raw[..], &["f32"]].concat(), f32_bytes(&mpx)),
+        ([&raw[..], &["s16"]].concat(), s16_bytes(&mpx)),
+    ] {
+        let said = run_with(&[vec!["decode", "-"], options].concat(), &bytes).done();
+        let text = said.text();
+        assert!(
+            text.starts_with("standard input: 0.300 s at 192000 Hz"),
+            "{text}"
+        );
+        assert!(text.contains("1 change\n"), "{text}");
+    }
+}
+
+#[test]
+fn raw_audio_goes_to_standard_output_and_the_report_aside() {
+    let folder = Folder::new("stdout");
+    let mpx = Multiplex {
+        seconds: 0.3,
+        ..Multiplex::default()
+    }
+    .make();
+    let (_, audio) = decode(&folder, &mpx, &[]);
+    let capture = folder.file("mpx.wav");
+    let said = run(&["decode", &capture, "-o", "-"]).done();
+    let both: Vec<f32> = audio
+        .left
+        .iter()
+        .zip(&audio.right)
+        .flat_map(|(l, r)| [*l, *r])
+        .collect();
+    assert_eq!(floats(&said.out), both);
+    assert!(
+        said.err.contains("standard output, raw: 48000 Hz"),
+        "{}",
+        said.err
+    );
+    let said = run(&["decode", &capture, "-o", "-", "--samples", "s16"]).done();
+    assert_eq!(said.out.len(), both.len() * 2);
+}
+
+#[test]
+fn sixteen_bits_and_other_rates() {
+    let folder = Folder::new("rates");
+    let (capture, audio) = (folder.file("mpx.wav"), folder.file("audio.wav"));
+    // the same samples at another rate: the pilot is elsewhere, so it is mono, but it is decoded
+    write_wav(
+        &capture,
+        250_000,
+        &[&Multiplex {
+            seconds: 0.2,
+            ..Multiplex::default()
+        }
+        .make()],
+    );
+    let said = run(&["decode", &capture, "-o", &audio, "--samples", "s16"]).done();
+    assert!(
+        said.text().contains("50000 Hz (one sample in 5), s16"),
+        "{}",
+        said.text()
+    );
+    let read = read_audio(&audio);
+    assert_eq!((read.rate, read.left.len()), (50_000, 7_680));
+    // the header may be wrong
+    let said = run(&["decode", &capture, "--rate", "192000"]).done();
+    assert!(said.text().contains("1 change\n"), "{}", said.text());
+}
+
+#[test]
+fn one_of_two_channels_is_chosen() {
+    let folder = Folder::new("channels");
+    let capture = folder.file("two.wav");
+    let mpx = Multiplex {
+        seconds: 0.3,
+        ..Multiplex::default()
+    }
+    .make();
+    write_wav(&capture, RATE, &[&vec![0.0; mpx.len()], &mpx]);
+    run(&["decode", &capture]).refused(1, "has 2 channels, and a multiplex has one");
+    run(&["decode", &capture, "--channel", "3"]).refused(1, "no channel 3");
+    let text = run(&["decode", &capture, "--channel", "2"]).done().text();
+    assert!(text.contains("1 change\n"), "{text}");
+}
+
+#[test]
+fn a_long_history_is_thinned_out_in_the_plot_and_whole_in_the_log() {
+    let folder = Folder::new("thin");
+    let (log, plot) = (folder.file("log.csv"), folder.file("plot.svg"));
+    let mpx = Multiplex {
+        seconds: 0.5,
+        ..Multiplex::default()
+    }
+    .make();
+    decode(
+        &folder,
+        &mpx,
+        &["--period", "0.05", "--log", &log, "--plot", &plot],
+    );
+    assert_eq!(fs::read_to_string(log).unwrap().lines().count(), 1 + 9_600);
+    let plot = fs::read_to_string(plot).unwrap();
+    assert!(plot.len() < 200_000, "{}", plot.len());
+}
