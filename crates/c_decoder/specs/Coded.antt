@@ -39,10 +39,36 @@ pub record Decoder (A : Type 0) : Type 0 where
   pub enabled : ℕ
 
 abbrev pub decoderF32 : DecoderF32 → Decoder Float
-decoderF32 d = record { kp = d .kp; ki = d .ki; imax = d .imax; beta = d .beta; on = d .on; off = d .off; integ = d .integ; level = d .level; step0 = d .step0; phase = d .phase; stereo = d .stereo; enabled = d .enabled }
+decoderF32 d = record {
+  kp = d .kp;
+  ki = d .ki;
+  imax = d .imax;
+  beta = d .beta;
+  on = d .on;
+  off = d .off;
+  integ = d .integ;
+  level = d .level;
+  step0 = d .step0;
+  phase = d .phase;
+  stereo = d .stereo;
+  enabled = d .enabled;
+}
 
 abbrev pub decoderQ15 : DecoderQ15 → Decoder ℤ
-decoderQ15 d = record { kp = d .kp; ki = d .ki; imax = d .imax; beta = d .beta; on = d .on; off = d .off; integ = d .integ; level = d .level; step0 = d .step0; phase = d .phase; stereo = d .stereo; enabled = d .enabled }
+decoderQ15 d = record {
+  kp = d .kp;
+  ki = d .ki;
+  imax = d .imax;
+  beta = d .beta;
+  on = d .on;
+  off = d .off;
+  integ = d .integ;
+  level = d .level;
+  step0 = d .step0;
+  phase = d .phase;
+  stereo = d .stereo;
+  enabled = d .enabled;
+}
 
 -- the machine's state from C, and back
 abbrev pub takenOf : {A : Type 0} → Decoder A → Pll A
@@ -56,7 +82,20 @@ abbrev pub givenOf : {A : Type 0} → Pll A → Decoder A
 givenOf d =
     let g = d .gains in
     let m = d .moving in
-    record { kp = g .kp; ki = g .ki; imax = g .imax; beta = g .beta; on = g .on; off = g .off; integ = m .integ; level = m .level; step0 = g .step0; phase = m .phase; stereo = switchOf (m .stereo); enabled = switchOf (d .enabled) }
+    record {
+      kp = g .kp;
+      ki = g .ki;
+      imax = g .imax;
+      beta = g .beta;
+      on = g .on;
+      off = g .off;
+      integ = m .integ;
+      level = m .level;
+      step0 = g .step0;
+      phase = m .phase;
+      stereo = switchOf (m .stereo);
+      enabled = switchOf (d .enabled);
+    }
 
 -- ---- construction; z is the format's 0, and a record of zeros stands for what was not made
 abbrev pub noDecoder : {A : Type 0} → A → Decoder A

@@ -28,7 +28,8 @@ fn add_rds(e: StereoEncodeRds, table: &[f32], rds: &[f32], output: &mut [f32])
     requires { ⌜ length (now output) ≡ length (now rds) ⌝ }
     ensures { λ r. ⌜ now (output .exit)
         ≡ samples (length (now (rds .entry))) (λ i. add binary32 (getD (now (output .entry)) i nan)
-        (mul binary32 (mul binary32 (e .rds) (getD (now (rds .entry)) i nan)) (cosF32 (now (table .entry)) (sineAt 3 (phaseAt (e .enc) i))))) ⌝ }
+        (mul binary32 (mul binary32 (e .rds) (getD (now (rds .entry)) i nan))
+        (cosF32 (now (table .entry)) (sineAt 3 (phaseAt (e .enc) i))))) ⌝ }
 {
     let enc = e.enc;
     let level = e.rds;
@@ -55,7 +56,8 @@ pub fn encode(
     output: &mut [f32],
 ) -> EncodeRdsReply
     ensures { λ r. ⌜ record { said = says (r .answer); output = now (output .exit); encoder = r .encoder }
-        ≡ encodeRdsOf e (now (table .entry)) (now (left .entry)) (now (right .entry)) (now (rds .entry)) (now (output .entry)) ⌝ }
+        ≡ encodeRdsOf e
+        (now (table .entry)) (now (left .entry)) (now (right .entry)) (now (rds .entry)) (now (output .entry)) ⌝ }
 {
     let n = left.len();
     let a = then_input(table_rule(table.len()), n, right.len());

@@ -52,7 +52,8 @@ fn subcarrier(e: StereoEncode, table: &[f32], output: &mut [f32])
 fn mix(main: f32, left: &[f32], right: &[f32], output: &mut [f32])
     requires { ⌜ (length (now right) ≡ length (now left)) × (length (now output) ≡ length (now left)) ⌝ }
     ensures { λ r. ⌜ now (output .exit)
-        ≡ samples (length (now (left .entry))) (λ i. mixedOf main (getD (now (left .entry)) i nan) (getD (now (right .entry)) i nan) (getD (now (output .entry)) i nan)) ⌝ }
+        ≡ samples (length (now (left .entry))) (λ i. mixedOf main
+        (getD (now (left .entry)) i nan) (getD (now (right .entry)) i nan) (getD (now (output .entry)) i nan)) ⌝ }
 {
     let mut i = 0usize;
     while i < left.len() {
@@ -100,7 +101,8 @@ pub(crate) fn run(
     right: &[f32],
     output: &mut [f32],
 ) -> u32
-    requires { ⌜ (length (now table) ≡ entries) × (length (now right) ≡ length (now left)) × (length (now output) ≡ length (now left)) ⌝ }
+    requires { ⌜ (length (now table) ≡ entries)
+        × (length (now right) ≡ length (now left)) × (length (now output) ≡ length (now left)) ⌝ }
     ensures { λ r. ⌜ r ≡ phaseAt e (length (now (left .entry))) ⌝ ∗ ⌜ now (output .exit)
         ≡ samples (length (now (left .entry))) (λ i. multiplexOf (now (table .entry)) (e .main) (e .pilot) (phaseAt e i)
         (getD (now (left .entry)) i nan) (getD (now (right .entry)) i nan)) ⌝ }
