@@ -1,4 +1,5 @@
 pub mod Samples
+pub mod Passes
 pub mod Causes
 pub mod Tests
 pub mod Whole

@@ -60,14 +60,14 @@ pub fn matrix_f32(sum: &[f32], difference: &[f32], left: &mut [f32], right: &mut
 
 // One sample of the left channel. Limiting after each step leaves what limiting s + 2d once would
 // (proofs/Twice.antt), and compiles to one instruction a step for eight samples.
-fn left_q15(s: i16, d: i16) -> i16
+pub fn left_q15(s: i16, d: i16) -> i16
     ensures { λ r. ⌜ r ≡ leftQ15 s d ⌝ }
 {
     q15_add_sat(q15_add_sat(s, d), d)
 }
 
 // One sample of the right channel.
-fn right_q15(s: i16, d: i16) -> i16
+pub fn right_q15(s: i16, d: i16) -> i16
     ensures { λ r. ⌜ r ≡ rightQ15 s d ⌝ }
 {
     q15_sub_sat(q15_sub_sat(s, d), d)

@@ -7,7 +7,7 @@ use lib.ListN.{length, getD}
 use lib.Ieee.{nan, binary32, add, mul}
 use Rattle.phase.specs.Lookup.{sineAt, cosF32}
 use Rattle.encoder.proofs.Phases.{Sent, sent-start, sent-next, sent-end}
-use Rattle.encoder.proofs.Passes.{Untouched, untouched-start, untouched-next}
+use Rattle.answers.proofs.Passes.{Untouched, untouched-start, untouched-next}
 use Rattle.encoder.proofs.stereo.add_pilot.Statement.{statement}
 use Rattle.encoder.proofs.stereo.add_pilot.Tie as tie
 

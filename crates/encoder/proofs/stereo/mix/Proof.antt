@@ -7,7 +7,7 @@ use lib.ListN.{length, getD}
 use lib.Ieee.{nan}
 use Rattle.encoder.specs.Multiplex.{mixedOf}
 use Rattle.answers.proofs.Samples.{Filled, filled-start, filled-next, filled-end}
-use Rattle.encoder.proofs.Passes.{Untouched, untouched-start, untouched-next}
+use Rattle.answers.proofs.Passes.{Untouched, untouched-start, untouched-next}
 use Rattle.encoder.proofs.stereo.mix.Statement.{statement}
 use Rattle.encoder.proofs.stereo.mix.Tie as tie
 

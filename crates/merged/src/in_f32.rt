@@ -1,0 +1,55 @@
+// Left and right in f32.
+use answers::answer::is_accepted;
+use decoder::parts::ReplyF32;
+use decoder_record::pll_f32::StereoPllF32;
+ghost use mathlib.Core.Path.{_≡_};
+ghost use lib.ListN.{length};
+ghost use Rattle.answers.specs.Answer.{says, accepted};
+ghost use Rattle.matrix.specs.Matrix.{filledF32};
+ghost use Rattle.decoder.specs.F32.{f32};
+ghost use Rattle.decoder_record.specs.Records.{pllF32};
+ghost use Rattle.merged.specs.Merged.{mergedOf};
+
+// Sum and difference become left and right, where they lie, so that no buffer is needed.
+fn matrix_in_place(left: &mut [f32], right: &mut [f32])
+    requires { ⌜ length (now right) ≡ length (now left) ⌝ }
+    ensures { λ r. ⌜ record { said = accepted; left = now (left .exit); right = now (right .exit) }
+        ≡ filledF32 (now (left .entry)) (now (right .entry)) ⌝ }
+{
+    let mut i = 0usize;
+    while i < left.len() {
+        let s = left[i];
+        let d = right[i];
+        let d2 = d + d;
+        left[i] = s + d2;
+        right[i] = s - d2;
+        i += 1;
+    }
+}
+
+// A merged block, the fast way.
+pub fn block(
+    d: StereoPllF32,
+    table: &[f32],
+    mpx: &[f32],
+    pilot: &[f32],
+    left: &mut [f32],
+    right: &mut [f32],
+) -> ReplyF32
+    ensures { λ r. ⌜ record {
+      said = says (r .answer);
+      left = now (left .exit);
+      right = now (right .exit);
+      pll = pllF32 (r .decoder);
+    }
+        ≡ mergedOf f32 filledF32 (pllF32 d) (now (table .entry)) (now (mpx .entry)) (now (pilot .entry))
+        (now (left .entry)) (now (right .entry)) ⌝ }
+{
+    let reply = decoder::fast::block(d, table, mpx, pilot, left, right);
+    let answer = reply.answer;
+    if !is_accepted(answer) {
+        return reply;
+    }
+    matrix_in_place(left, right);
+    reply
+}
