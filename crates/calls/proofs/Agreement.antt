@@ -1,18 +1,19 @@
 -- Demand 3 from what each format shows of its functions: what their callers learn is what the machine says, at
 -- one call and so over every list. Over the format. Assumes nothing.
-use Prim.Native.Nat.{ℕ}
 use mathlib.Core.Path.{_≡_, refl, sym, ap, _∙_}
 use mathlib.Core.Bool.{true, false}
 use mathlib.Core.List.{List, [], _∷_, map}
 use contract.Lifetimes.{Lfts}
 use denote.Ref.{RefT}
-use Rattle.answers.specs.Answer.{made, mapBuilt}
+use Rattle.answers.specs.Answer.{Said, made, mapBuilt}
 use Rattle.answers.proofs.Causes.{made-same}
+use Rattle.matrix.specs.Matrix.{Matrixed}
 use Rattle.decoder_record.specs.State.{Pll, enabledOf, resetOf}
 use Rattle.decoder.specs.Machine.{Arithmetic, Blocked, blockOf}
+use Rattle.merged.specs.Merged.{mergedBy, Merged, mergedOf}
 use Rattle.calls.specs.Events.{Event, after, Locked, history}
-use Rattle.calls.specs.Calls.{Call, block, enable, disable, reset, Left, done, callOf, machine, final, events}
-use Rattle.calls.specs.Demand.{lent, Arguments, BlockLearnt, Format, Constructed, seen, May, Runs, lastRecord, After, Agreed, Demand}
+use Rattle.calls.specs.Calls.{Brought, Call, block, merged, enable, disable, reset, Output, signal, Left, leaving, done, callOf, machine, final, events}
+use Rattle.calls.specs.Demand.{lent, Arguments, BlockLearnt, Decoder, Format, Constructed, seen, Leaves, MatrixOf, plainDecoder, fastDecoder, May, Runs, lastRecord, After, Agreed, Demand}
 use Rattle.calls.proofs.Events.{final-after}
 use Rattle.calls.proofs.History.{stereo-locked, locked-stereo}
 
@@ -20,10 +21,17 @@ module _ {A D R N : Type 0} (K : Format A D R N) where
   abbrev F : Arithmetic A
   F = K .arithmetic
 
-  -- what a caller of a block learns is the machine's block
+  abbrev M : List A → List A → Matrixed A
+  M = K .matrix
+
+  -- what a caller of a block learns is the machine's block, and of a merged one the machine's merged block
   abbrev pub BlockRight : BlockLearnt A D R → Type 0
   BlockRight B = (κs : Lfts 5) (d : D) (t x p y z : RefT (List A)) (r : R) (y' z' : RefT (List A)) → B κs d t x p y z r y' z'
       → record { said = K .said r; sum = y' .now; difference = z' .now; pll = K .state (K .decoder r) } ≡ blockOf F (K .state d) (t .now) (x .now) (p .now) (y .now) (z .now)
+
+  abbrev pub MergedRight : BlockLearnt A D R → Type 0
+  MergedRight B = (κs : Lfts 5) (d : D) (t x p y z : RefT (List A)) (r : R) (y' z' : RefT (List A)) → B κs d t x p y z r y' z'
+      → record { said = K .said r; left = y' .now; right = z' .now; pll = K .state (K .decoder r) } ≡ mergedOf F M (K .state d) (t .now) (x .now) (p .now) (y .now) (z .now)
 
   -- the three calls that set fields
   pub record SetsRight : Type 0 where
@@ -31,47 +39,87 @@ module _ {A D R N : Type 0} (K : Format A D R N) where
     pub disables : (d e : D) → K .disable d e → K .state e ≡ enabledOf false (K .state d)
     pub resets : (d e : D) → K .reset d e → K .state e ≡ resetOf (F .nought) (K .state d)
 
-  -- a block as a call leaves it
-  abbrev left : Blocked A → Left A (Pll A)
-  left b = record { said = b .said; outputs = b .sum ∷ b .difference ∷ []; decoder = b .pll }
+  -- each sort of block of a decoder leaves what the machine leaves
+  record BlocksRight (W : Decoder A D) : Type 0 where
+    as-block : (d : D) (b : Brought A) (l : Left A D) → W .block d b l → seen K l ≡ callOf F M (K .state d) (block b)
+    as-merged : (d : D) (b : Brought A) (l : Left A D) → W .merged d b l → seen K l ≡ callOf F M (K .state d) (merged b)
 
-  module _ (B : BlockLearnt A D R) (right : BlockRight B) (sets : SetsRight) where
-    one : (d : D) (c : Call A) (l : Left A D) → May K B d c l → seen K l ≡ callOf F (K .state d) c
-    one d (block t x p y z) l h =
-        let w = h .1 in
-        ap (seen K) (h .6) ∙ ap left (right (h .0) d (lent (w .0) t) (lent (w .1) x) (lent (w .2) p) (lent (w .3) y) (lent (w .4) z) (h .2) (lent (w .3) (h .3)) (lent (w .4) (h .4)) (h .5))
+  -- what a block and a merged block leave as a call leaves it
+  abbrev ofBlock : Blocked A → Left A (Pll A)
+  ofBlock r = leaving (r .said) (r .sum) (r .difference) (r .pll)
+
+  abbrev ofMerged : Merged A → Left A (Pll A)
+  ofMerged r = leaving (r .said) (r .left) (r .right) (r .pll)
+
+  block-leaves : (B : BlockLearnt A D R) → BlockRight B → (d : D) (b : Brought A) (l : Left A D) → Leaves K B d b l → seen K l ≡ callOf F M (K .state d) (block b)
+  block-leaves B right d b l h =
+      let w = h .1 in
+      ap (seen K) (h .6) ∙ ap ofBlock (right (h .0) d (lent (w .0) (b .table)) (lent (w .1) (b .mpx)) (lent (w .2) (b .pilot)) (lent (w .3) (b .first)) (lent (w .4) (b .second)) (h .2) (lent (w .3) (h .3)) (lent (w .4) (h .4)) (h .5))
+
+  merged-leaves : (B : BlockLearnt A D R) → MergedRight B → (d : D) (b : Brought A) (l : Left A D) → Leaves K B d b l → seen K l ≡ callOf F M (K .state d) (merged b)
+  merged-leaves B right d b l h =
+      let w = h .1 in
+      ap (seen K) (h .6) ∙ ap ofMerged (right (h .0) d (lent (w .0) (b .table)) (lent (w .1) (b .mpx)) (lent (w .2) (b .pilot)) (lent (w .3) (b .first)) (lent (w .4) (b .second)) (h .2) (lent (w .3) (h .3)) (lent (w .4) (h .4)) (h .5))
+
+  -- the matrix of what a block has left
+  abbrev merging : Left A (Pll A) → List (Output A) → Left A (Pll A)
+  merging l [] = l
+  merging l (o ∷ []) = l
+  merging l (signal s ∷ signal d ∷ []) = let m = mergedBy M (l .said) s d in leaving (l .said) (m .left) (m .right) (l .decoder)
+  merging l (o ∷ p ∷ q ∷ os) = l
+
+  matrix-leaves : (Block : D → Brought A → Left A D → Type 0)
+      → ((d : D) (b : Brought A) (l : Left A D) → Block d b l → seen K l ≡ callOf F M (K .state d) (block b))
+      → (d : D) (b : Brought A) (l : Left A D) → MatrixOf K Block d b l → seen K l ≡ callOf F M (K .state d) (merged b)
+  unfolding mergedOf
+  matrix-leaves Block right d b l h =
+      ap (seen K) (h .5) ∙ ap (λ (z : Left A (Pll A)). merging z (z .outputs)) (right d b (leaving (h .0) (h .1) (h .2) (h .3)) (h .4))
+
+  module _ (W : Decoder A D) (right : BlocksRight W) (sets : SetsRight) where
+    one : (d : D) (c : Call A) (l : Left A D) → May K W d c l → seen K l ≡ callOf F M (K .state d) c
+    one d (block b) l h = right .as-block d b l h
+    one d (merged b) l h = right .as-merged d b l h
     one d enable l h = ap (seen K) (h .2) ∙ ap done (sets .enables d (h .0) (h .1))
     one d disable l h = ap (seen K) (h .2) ∙ ap done (sets .disables d (h .0) (h .1))
     one d reset l h = ap (seen K) (h .2) ∙ ap done (sets .resets d (h .0) (h .1))
 
-    agree : (d : D) (cs : List (Call A)) (ls : List (Left A D)) → Runs K B d cs ls → map (seen K) ls ≡ machine F (K .state d) cs
+    agree : (d : D) (cs : List (Call A)) (ls : List (Left A D)) → Runs K W d cs ls → map (seen K) ls ≡ machine F M (K .state d) cs
     agree d [] [] h = refl
     agree d [] (l ∷ ls) h = absurd h
     agree d (c ∷ cs) [] h = absurd h
     agree d (c ∷ cs) (l ∷ ls) h =
         ap (λ (m : List (Left A (Pll A))). seen K l ∷ m) (agree (l .decoder) cs ls (h .1))
-        ∙ ap (λ (b : Left A (Pll A)). b ∷ machine F (b .decoder) cs) (one d c l (h .0))
+        ∙ ap (λ (b : Left A (Pll A)). b ∷ machine F M (b .decoder) cs) (one d c l (h .0))
 
     -- the record that the last call left is the machine's last state
-    last-agrees : (d : D) (cs : List (Call A)) (ls : List (Left A D)) → Runs K B d cs ls → K .state (lastRecord K d ls) ≡ final F (K .state d) cs
+    last-agrees : (d : D) (cs : List (Call A)) (ls : List (Left A D)) → Runs K W d cs ls → K .state (lastRecord K d ls) ≡ final F M (K .state d) cs
     last-agrees d [] [] h = refl
     last-agrees d [] (l ∷ ls) h = absurd h
     last-agrees d (c ∷ cs) [] h = absurd h
-    last-agrees d (c ∷ cs) (l ∷ ls) h = last-agrees (l .decoder) cs ls (h .1) ∙ ap (λ (b : Left A (Pll A)). final F (b .decoder) cs) (one d c l (h .0))
+    last-agrees d (c ∷ cs) (l ∷ ls) h = last-agrees (l .decoder) cs ls (h .1) ∙ ap (λ (b : Left A (Pll A)). final F M (b .decoder) cs) (one d c l (h .0))
 
   -- ---- demand 3, from what a format shows
   pub record Shown : Type 0 where
     pub plain-right : BlockRight (K .plain)
     pub fast-right : BlockRight (K .fast)
+    pub merged-right : MergedRight (K .merged)
     pub sets-right : SetsRight
     pub make-right : (a : Arguments) (r : N) → K .make a r → mapBuilt (K .state) (K .built r) ≡ K .newOf a
     pub mono-new : (a : Arguments) (m : Pll A) → K .newOf a ≡ made m → m .moving .stereo ≡ false
     pub limited : (a : Arguments) (m : Pll A) → K .newOf a ≡ made m → (es : List (Event A)) → K .Premise es → K .Within (after F m es)
     pub some-decoder : (a : Arguments) × (d : D) × Constructed K a d
-    pub some-plain : (d : D) (cs : List (Call A)) → (ls : List (Left A D)) × Runs K (K .plain) d cs ls
-    pub some-fast : (d : D) (cs : List (Call A)) → (ls : List (Left A D)) × Runs K (K .fast) d cs ls
+    pub some-plain : (d : D) (cs : List (Call A)) → (ls : List (Left A D)) × Runs K (plainDecoder K) d cs ls
+    pub some-fast : (d : D) (cs : List (Call A)) → (ls : List (Left A D)) × Runs K (fastDecoder K) d cs ls
 
   module _ (s : Shown) where
+    plain-blocks : BlocksRight (plainDecoder K)
+    plain-blocks =
+        let own = block-leaves (K .plain) (s .plain-right) in
+        record { as-block = own; as-merged = matrix-leaves (Leaves K (K .plain)) own }
+
+    fast-blocks : BlocksRight (fastDecoder K)
+    fast-blocks = record { as-block = block-leaves (K .fast) (s .fast-right); as-merged = merged-leaves (K .merged) (s .merged-right) }
+
     -- a constructed decoder is the machine's fresh state
     start : (a : Arguments) (d : D) → Constructed K a d → K .newOf a ≡ made (K .state d)
     start a d c = sym (s .make-right a (c .0) (c .1)) ∙ ap (mapBuilt (K .state)) (c .2)
@@ -79,8 +127,8 @@ module _ {A D R N : Type 0} (K : Format A D R N) where
     rules : (a : Arguments) (m : Pll A) → K .newOf a ≡ made m → (cs : List (Call A)) → After K m cs
     rules a m h cs =
         let mono = s .mono-new a m h in
-        let es = events F m cs in
-        let e = final-after F m cs in
+        let es = events F M m cs in
+        let e = final-after F M m cs in
         record {
           stereo = λ k. stereo-locked F m mono es (rw e at k);
           only = λ w. rw e (locked-stereo F m mono es w);
@@ -96,10 +144,10 @@ module _ {A D R N : Type 0} (K : Format A D R N) where
           record {
             fresh = K .state d;
             begins = m;
-            plain-calls = agree (K .plain) (s .plain-right) (s .sets-right) d cs ls p;
-            fast-calls = rw (← same) (agree (K .fast) (s .fast-right) (s .sets-right) e cs ks f);
-            plain-last = last-agrees (K .plain) (s .plain-right) (s .sets-right) d cs ls p;
-            fast-last = rw (← same) (last-agrees (K .fast) (s .fast-right) (s .sets-right) e cs ks f);
+            plain-calls = agree (plainDecoder K) plain-blocks (s .sets-right) d cs ls p;
+            fast-calls = rw (← same) (agree (fastDecoder K) fast-blocks (s .sets-right) e cs ks f);
+            plain-last = last-agrees (plainDecoder K) plain-blocks (s .sets-right) d cs ls p;
+            fast-last = rw (← same) (last-agrees (fastDecoder K) fast-blocks (s .sets-right) e cs ks f);
             rules = rules a (K .state d) m cs;
           };
       some-decoder = s .some-decoder;

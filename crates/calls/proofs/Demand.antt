@@ -32,6 +32,9 @@ use Rattle.decoder.proofs.plain.block.Met as f32-plain-met
 use Rattle.decoder.proofs.fast.block.Reads as f32-fast
 use Rattle.decoder.proofs.fast.block.Symbol as f32-fast-symbol
 use Rattle.decoder.proofs.fast.block.Met as f32-fast-met
+use Rattle.merged.proofs.in_f32.block.Reads as f32-merged
+use Rattle.merged.proofs.in_f32.block.Symbol as f32-merged-symbol
+use Rattle.merged.proofs.in_f32.block.Met as f32-merged-met
 use Rattle.decoder_record.proofs.pll_f32.StereoPllF32.enable.Reads as f32-enable
 use Rattle.decoder_record.proofs.pll_f32.StereoPllF32.enable.Symbol as f32-enable-symbol
 use Rattle.decoder_record.proofs.pll_f32.StereoPllF32.enable.Met as f32-enable-met
@@ -50,6 +53,9 @@ use Rattle.decoder_q15.proofs.plain.block.Met as q15-plain-met
 use Rattle.decoder_q15.proofs.fast.block.Reads as q15-fast
 use Rattle.decoder_q15.proofs.fast.block.Symbol as q15-fast-symbol
 use Rattle.decoder_q15.proofs.fast.block.Met as q15-fast-met
+use Rattle.merged.proofs.in_q15.block.Reads as q15-merged
+use Rattle.merged.proofs.in_q15.block.Symbol as q15-merged-symbol
+use Rattle.merged.proofs.in_q15.block.Met as q15-merged-met
 use Rattle.decoder_record.proofs.pll_q15.StereoPllQ15.enable.Reads as q15-enable
 use Rattle.decoder_record.proofs.pll_q15.StereoPllQ15.enable.Symbol as q15-enable-symbol
 use Rattle.decoder_record.proofs.pll_q15.StereoPllQ15.enable.Met as q15-enable-met
@@ -73,6 +79,7 @@ shown-f32 : Shown F32
 shown-f32 = record {
   plain-right = λ κs d t x p y z r y' z' h. h;
   fast-right = λ κs d t x p y z r y' z' h. h;
+  merged-right = λ κs d t x p y z r y' z' h. h;
   sets-right = record { enables = λ d e h. h; disables = λ d e h. h; resets = λ d e h. h };
   make-right = λ a r h. built-f32 r ∙ h;
   mono-new = λ a m h. sym (ap (λ (d : Pll Float). d .moving .stereo) (made-f32 (a .pilot) (a .natural) (a .level) (a .beta) (a .rate) m h .1));
@@ -86,6 +93,7 @@ shown-q15 : Shown Q15
 shown-q15 = record {
   plain-right = λ κs d t x p y z r y' z' h. h;
   fast-right = λ κs d t x p y z r y' z' h. h;
+  merged-right = λ κs d t x p y z r y' z' h. h;
   sets-right = record { enables = λ d e h. h; disables = λ d e h. h; resets = λ d e h. h };
   make-right = λ a r h. built-q15 r ∙ h;
   mono-new = λ a m h. sym (ap (λ (d : Pll ℤ). d .moving .stereo) (made-q15 (a .pilot) (a .natural) (a .level) (a .beta) (a .rate) m h .2));
@@ -100,15 +108,18 @@ demand3 = record {
   f32-make-callable = λ w γ k same. f32-make.known w γ k f32-make-symbol.routine same (f32-make-met.met (w .𝓤) (w .H) (w .𝓜) (w .𝓖) (w .𝓡));
   f32-plain-callable = λ w γ k same. f32-plain.known w γ k f32-plain-symbol.routine same (f32-plain-met.met (w .𝓤) (w .H) (w .𝓜) (w .𝓖) (w .𝓡));
   f32-fast-callable = λ w γ k same. f32-fast.known w γ k f32-fast-symbol.routine same (f32-fast-met.met (w .𝓤) (w .H) (w .𝓜) (w .𝓖) (w .𝓡));
+  f32-merged-callable = λ w γ k same. f32-merged.known w γ k f32-merged-symbol.routine same (f32-merged-met.met (w .𝓤) (w .H) (w .𝓜) (w .𝓖) (w .𝓡));
   f32-enable-callable = λ w γ k same. f32-enable.known w γ k f32-enable-symbol.routine same (f32-enable-met.met (w .𝓤) (w .H) (w .𝓜) (w .𝓖) (w .𝓡));
   f32-disable-callable = λ w γ k same. f32-disable.known w γ k f32-disable-symbol.routine same (f32-disable-met.met (w .𝓤) (w .H) (w .𝓜) (w .𝓖) (w .𝓡));
   f32-reset-callable = λ w γ k same. f32-reset.known w γ k f32-reset-symbol.routine same (f32-reset-met.met (w .𝓤) (w .H) (w .𝓜) (w .𝓖) (w .𝓡));
   q15-make-callable = λ w γ k same. q15-make.known w γ k q15-make-symbol.routine same (q15-make-met.met (w .𝓤) (w .H) (w .𝓜) (w .𝓖) (w .𝓡));
   q15-plain-callable = λ w γ k same. q15-plain.known w γ k q15-plain-symbol.routine same (q15-plain-met.met (w .𝓤) (w .H) (w .𝓜) (w .𝓖) (w .𝓡));
   q15-fast-callable = λ w γ k same. q15-fast.known w γ k q15-fast-symbol.routine same (q15-fast-met.met (w .𝓤) (w .H) (w .𝓜) (w .𝓖) (w .𝓡));
+  q15-merged-callable = λ w γ k same. q15-merged.known w γ k q15-merged-symbol.routine same (q15-merged-met.met (w .𝓤) (w .H) (w .𝓜) (w .𝓖) (w .𝓡));
   q15-enable-callable = λ w γ k same. q15-enable.known w γ k q15-enable-symbol.routine same (q15-enable-met.met (w .𝓤) (w .H) (w .𝓜) (w .𝓖) (w .𝓡));
   q15-disable-callable = λ w γ k same. q15-disable.known w γ k q15-disable-symbol.routine same (q15-disable-met.met (w .𝓤) (w .H) (w .𝓜) (w .𝓖) (w .𝓡));
   q15-reset-callable = λ w γ k same. q15-reset.known w γ k q15-reset-symbol.routine same (q15-reset-met.met (w .𝓤) (w .H) (w .𝓜) (w .𝓖) (w .𝓡));
+  own-matrix = λ K d b l h. h;
   in-f32 = demand F32 shown-f32;
   in-q15 = demand Q15 shown-q15;
 }

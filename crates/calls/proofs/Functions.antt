@@ -9,6 +9,7 @@ use lib.Dec.{T}
 use lib.IntN.{ℤ, negℤ}
 use lib.Ieee.{Float, neg, le}
 use Rattle.answers.specs.Answer.{says, Built, made, refused}
+use Rattle.matrix.specs.Matrix.{filledF32, filledQ15}
 use Rattle.decoder_record.specs.State.{Pll}
 use Rattle.decoder_record.specs.Fit.{withinZ, fitQ15}
 use Rattle.decoder_record.specs.Fresh.{newF32Of, newQ15Of}
@@ -25,7 +26,7 @@ use Rattle.decoder.specs.declared.parts.ReplyF32.{ReplyF32}
 use Rattle.decoder_q15.specs.declared.parts.ReplyQ15.{ReplyQ15}
 use Rattle.calls.specs.Events.{UnitTables, Pilots16}
 use Rattle.calls.specs.Callable.{Callable}
-use Rattle.calls.specs.Demand.{Format, Demand}
+use Rattle.calls.specs.Demand.{Format, OwnMatrix, Demand}
 use Rattle.decoder_record.proofs.pll_f32.StereoPllF32.new.Reads as f32-make
 use Rattle.decoder_record.proofs.pll_f32.StereoPllF32.new.Kinds as f32-make-kinds
 use Rattle.decoder_record.proofs.pll_f32.StereoPllF32.new.Symbol as f32-make-symbol
@@ -35,6 +36,9 @@ use Rattle.decoder.proofs.plain.block.Symbol as f32-plain-symbol
 use Rattle.decoder.proofs.fast.block.Reads as f32-fast
 use Rattle.decoder.proofs.fast.block.Kinds as f32-fast-kinds
 use Rattle.decoder.proofs.fast.block.Symbol as f32-fast-symbol
+use Rattle.merged.proofs.in_f32.block.Reads as f32-merged
+use Rattle.merged.proofs.in_f32.block.Kinds as f32-merged-kinds
+use Rattle.merged.proofs.in_f32.block.Symbol as f32-merged-symbol
 use Rattle.decoder_record.proofs.pll_f32.StereoPllF32.enable.Reads as f32-enable
 use Rattle.decoder_record.proofs.pll_f32.StereoPllF32.enable.Kinds as f32-enable-kinds
 use Rattle.decoder_record.proofs.pll_f32.StereoPllF32.enable.Symbol as f32-enable-symbol
@@ -53,6 +57,9 @@ use Rattle.decoder_q15.proofs.plain.block.Symbol as q15-plain-symbol
 use Rattle.decoder_q15.proofs.fast.block.Reads as q15-fast
 use Rattle.decoder_q15.proofs.fast.block.Kinds as q15-fast-kinds
 use Rattle.decoder_q15.proofs.fast.block.Symbol as q15-fast-symbol
+use Rattle.merged.proofs.in_q15.block.Reads as q15-merged
+use Rattle.merged.proofs.in_q15.block.Kinds as q15-merged-kinds
+use Rattle.merged.proofs.in_q15.block.Symbol as q15-merged-symbol
 use Rattle.decoder_record.proofs.pll_q15.StereoPllQ15.enable.Reads as q15-enable
 use Rattle.decoder_record.proofs.pll_q15.StereoPllQ15.enable.Kinds as q15-enable-kinds
 use Rattle.decoder_record.proofs.pll_q15.StereoPllQ15.enable.Symbol as q15-enable-symbol
@@ -75,6 +82,7 @@ builtQ15 (q15-new.Refused n) = refused n
 abbrev pub F32 : Format Float StereoPllF32 ReplyF32 NewF32
 F32 = record {
   arithmetic = f32;
+  matrix = filledF32;
   newOf = λ a. newF32Of (a .pilot) (a .natural) (a .level) (a .beta) (a .rate);
   state = pllF32;
   said = λ r. says (r .answer);
@@ -83,6 +91,7 @@ F32 = record {
   make = λ a r. f32-make.Learnt tt (a .pilot, (a .natural, (a .level, (a .beta, (a .rate, tt))))) r (a .pilot, (a .natural, (a .level, (a .beta, (a .rate, tt)))));
   plain = λ κs d t x p y z r y' z'. f32-plain.Learnt κs (d, (t, (x, (p, (y, (z, tt)))))) r (d, (t, (x, (p, (y', (z', tt))))));
   fast = λ κs d t x p y z r y' z'. f32-fast.Learnt κs (d, (t, (x, (p, (y, (z, tt)))))) r (d, (t, (x, (p, (y', (z', tt))))));
+  merged = λ κs d t x p y z r y' z'. f32-merged.Learnt κs (d, (t, (x, (p, (y, (z, tt)))))) r (d, (t, (x, (p, (y', (z', tt))))));
   enable = λ d e. f32-enable.Learnt tt (d, tt) e (d, tt);
   disable = λ d e. f32-disable.Learnt tt (d, tt) e (d, tt);
   reset = λ d e. f32-reset.Learnt tt (d, tt) e (d, tt);
@@ -94,6 +103,7 @@ F32 = record {
 abbrev pub Q15 : Format ℤ StereoPllQ15 ReplyQ15 NewQ15
 Q15 = record {
   arithmetic = q15;
+  matrix = filledQ15;
   newOf = λ a. newQ15Of (a .pilot) (a .natural) (a .level) (a .beta) (a .rate);
   state = pllQ15;
   said = λ r. says (r .answer);
@@ -102,6 +112,7 @@ Q15 = record {
   make = λ a r. q15-make.Learnt tt (a .pilot, (a .natural, (a .level, (a .beta, (a .rate, tt))))) r (a .pilot, (a .natural, (a .level, (a .beta, (a .rate, tt)))));
   plain = λ κs d t x p y z r y' z'. q15-plain.Learnt κs (d, (t, (x, (p, (y, (z, tt)))))) r (d, (t, (x, (p, (y', (z', tt))))));
   fast = λ κs d t x p y z r y' z'. q15-fast.Learnt κs (d, (t, (x, (p, (y, (z, tt)))))) r (d, (t, (x, (p, (y', (z', tt))))));
+  merged = λ κs d t x p y z r y' z'. q15-merged.Learnt κs (d, (t, (x, (p, (y, (z, tt)))))) r (d, (t, (x, (p, (y', (z', tt))))));
   enable = λ d e. q15-enable.Learnt tt (d, tt) e (d, tt);
   disable = λ d e. q15-disable.Learnt tt (d, tt) e (d, tt);
   reset = λ d e. q15-reset.Learnt tt (d, tt) e (d, tt);
@@ -110,19 +121,23 @@ Q15 = record {
 }
 
 -- the whole of it: each function may be called with any arguments, and what its caller then learns agrees with
--- the machine over every list
+-- the machine over every list; and for any format at all, also one whose plain block is wrong, the plain
+-- decoder's merged block is made from that block
 pub record Demand3 : Type 2 where
   pub f32-make-callable : Callable 0 f32-make-kinds.ps f32-make-kinds.r f32-make-symbol.routine f32-make.Learnt
   pub f32-plain-callable : Callable 5 f32-plain-kinds.ps f32-plain-kinds.r f32-plain-symbol.routine f32-plain.Learnt
   pub f32-fast-callable : Callable 5 f32-fast-kinds.ps f32-fast-kinds.r f32-fast-symbol.routine f32-fast.Learnt
+  pub f32-merged-callable : Callable 5 f32-merged-kinds.ps f32-merged-kinds.r f32-merged-symbol.routine f32-merged.Learnt
   pub f32-enable-callable : Callable 0 f32-enable-kinds.ps f32-enable-kinds.r f32-enable-symbol.routine f32-enable.Learnt
   pub f32-disable-callable : Callable 0 f32-disable-kinds.ps f32-disable-kinds.r f32-disable-symbol.routine f32-disable.Learnt
   pub f32-reset-callable : Callable 0 f32-reset-kinds.ps f32-reset-kinds.r f32-reset-symbol.routine f32-reset.Learnt
   pub q15-make-callable : Callable 0 q15-make-kinds.ps q15-make-kinds.r q15-make-symbol.routine q15-make.Learnt
   pub q15-plain-callable : Callable 5 q15-plain-kinds.ps q15-plain-kinds.r q15-plain-symbol.routine q15-plain.Learnt
   pub q15-fast-callable : Callable 5 q15-fast-kinds.ps q15-fast-kinds.r q15-fast-symbol.routine q15-fast.Learnt
+  pub q15-merged-callable : Callable 5 q15-merged-kinds.ps q15-merged-kinds.r q15-merged-symbol.routine q15-merged.Learnt
   pub q15-enable-callable : Callable 0 q15-enable-kinds.ps q15-enable-kinds.r q15-enable-symbol.routine q15-enable.Learnt
   pub q15-disable-callable : Callable 0 q15-disable-kinds.ps q15-disable-kinds.r q15-disable-symbol.routine q15-disable.Learnt
   pub q15-reset-callable : Callable 0 q15-reset-kinds.ps q15-reset-kinds.r q15-reset-symbol.routine q15-reset.Learnt
+  pub own-matrix : {A D R N : Type 0} (K : Format A D R N) → OwnMatrix K
   pub in-f32 : Demand F32
   pub in-q15 : Demand Q15

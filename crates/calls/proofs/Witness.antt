@@ -25,8 +25,10 @@ use Rattle.decoder_record.specs.declared.pll_q15.NewQ15.the-variants as q15-new
 use Rattle.decoder.specs.Machine.{Arithmetic, Blocked, blockSays, runOf, blockOf}
 use Rattle.decoder.specs.declared.parts.ReplyF32.{ReplyF32}
 use Rattle.decoder_q15.specs.declared.parts.ReplyQ15.{ReplyQ15}
-use Rattle.calls.specs.Calls.{Call, block, enable, disable, reset, Left, done}
-use Rattle.calls.specs.Demand.{Place, lent, Arguments, BlockLearnt, Format, Constructed, May, Runs}
+use Rattle.matrix.specs.Matrix.{Matrixed}
+use Rattle.merged.specs.Merged.{Merged, mergedOf}
+use Rattle.calls.specs.Calls.{Brought, Call, block, merged, enable, disable, reset, Left, leaving, done}
+use Rattle.calls.specs.Demand.{Place, lent, Arguments, BlockLearnt, Decoder, Format, Constructed, Leaves, MatrixOf, plainDecoder, fastDecoder, May, Runs}
 use Rattle.calls.proofs.Functions.{F32, Q15}
 
 -- ---- an answer of the program for whatever the machine says
@@ -66,6 +68,11 @@ block-said F d t x p y z = go (blockSays F d (length t) (length x) (length p) (l
     go (turned n) = refl
     go (lengths n a b) = refl
 
+merged-said : {A : Type 0} (F : Arithmetic A) (matrix : List A → List A → Matrixed A) (d : Pll A) (t x p y z : List A)
+    → mergedOf F matrix d t x p y z .said ≡ blockSays F d (length t) (length x) (length p) (length y) (length z)
+unfolding mergedOf
+merged-said F matrix d t x p y z = block-said F d t x p y z
+
 -- ---- over every list of calls the contracts allow something
 abbrev lifetimes : Lfts 5
 lifetimes = ([], ([], ([], ([], ([], tt)))))
@@ -77,32 +84,71 @@ module _ {A D R N : Type 0} (K : Format A D R N) where
   abbrev F : Arithmetic A
   F = K .arithmetic
 
+  abbrev M : List A → List A → Matrixed A
+  M = K .matrix
+
   -- a record for each of the machine's states, and a reply for each answer, which the contracts allow
-  record Allows (B : BlockLearnt A D R) : Type 0 where
+  record Allows : Type 0 where
     make : Pll A → D
     reply : Answer → D → R
-    blocks : (d : D) (t x p y z : List A) (a : Answer) → let b = blockOf F (K .state d) t x p y z in
-        _≡_ {A = Blocked A} (record { said = says a; sum = b .sum; difference = b .difference; pll = b .pll }) b
-        → B lifetimes d (lent place t) (lent place x) (lent place p) (lent place y) (lent place z) (reply a (make (b .pll))) (lent place (b .sum)) (lent place (b .difference))
     enables : (d : D) → K .enable d (make (enabledOf true (K .state d)))
     disables : (d : D) → K .disable d (make (enabledOf false (K .state d)))
     resets : (d : D) → K .reset d (make (resetOf (F .nought) (K .state d)))
 
-  module _ (B : BlockLearnt A D R) (w : Allows B) where
-    one : (d : D) (c : Call A) → (l : Left A D) × May K B d c l
-    one d (block t x p y z) =
-        let m = K .state d in
-        let b = blockOf F m t x p y z in
-        let a = block-sayable F m (length t) (length x) (length p) (length y) (length z) in
-        let r = w .reply (a .0) (w .make (b .pll)) in
-        (_, (lifetimes, (place, place, place, place, place), r, b .sum, b .difference, w .blocks d t x p y z (a .0) (rw (a .1 ∙ sym (block-said F m t x p y z))), refl))
-    one d enable = let e = w .make (enabledOf true (K .state d)) in (done e, (e, w .enables d, refl))
-    one d disable = let e = w .make (enabledOf false (K .state d)) in (done e, (e, w .disables d, refl))
-    one d reset = let e = w .make (resetOf (F .nought) (K .state d)) in (done e, (e, w .resets d, refl))
+  module _ (w : Allows) where
+    -- a block's contract allows the machine's block, and a merged block's the machine's merged block
+    abbrev AllowsBlock : BlockLearnt A D R → Type 0
+    AllowsBlock B = (d : D) (b : Brought A) (a : Answer) → let r = blockOf F (K .state d) (b .table) (b .mpx) (b .pilot) (b .first) (b .second) in
+        _≡_ {A = Blocked A} (record { said = says a; sum = r .sum; difference = r .difference; pll = r .pll }) r
+        → B lifetimes d (lent place (b .table)) (lent place (b .mpx)) (lent place (b .pilot)) (lent place (b .first)) (lent place (b .second)) (w .reply a (w .make (r .pll))) (lent place (r .sum)) (lent place (r .difference))
 
-    some-run : (d : D) (cs : List (Call A)) → (ls : List (Left A D)) × Runs K B d cs ls
-    some-run d [] = ([], tt)
-    some-run d (c ∷ cs) = let l = one d c in let n = some-run (l .0 .decoder) cs in (l .0 ∷ n .0, (l .1, n .1))
+    abbrev AllowsMerged : BlockLearnt A D R → Type 0
+    AllowsMerged B = (d : D) (b : Brought A) (a : Answer) → let r = mergedOf F M (K .state d) (b .table) (b .mpx) (b .pilot) (b .first) (b .second) in
+        _≡_ {A = Merged A} (record { said = says a; left = r .left; right = r .right; pll = r .pll }) r
+        → B lifetimes d (lent place (b .table)) (lent place (b .mpx)) (lent place (b .pilot)) (lent place (b .first)) (lent place (b .second)) (w .reply a (w .make (r .pll))) (lent place (r .left)) (lent place (r .right))
+
+    abbrev some-block : (B : BlockLearnt A D R) → AllowsBlock B → (d : D) (b : Brought A) → (l : Left A D) × Leaves K B d b l
+    some-block B allows d b =
+        let m = K .state d in
+        let r = blockOf F m (b .table) (b .mpx) (b .pilot) (b .first) (b .second) in
+        let a = block-sayable F m (length (b .table)) (length (b .mpx)) (length (b .pilot)) (length (b .first)) (length (b .second)) in
+        let y = w .reply (a .0) (w .make (r .pll)) in
+        (_, (lifetimes, (place, place, place, place, place), y, r .sum, r .difference, allows d b (a .0) (rw (a .1 ∙ sym (block-said F m (b .table) (b .mpx) (b .pilot) (b .first) (b .second)))), refl))
+
+    some-merged : (B : BlockLearnt A D R) → AllowsMerged B → (d : D) (b : Brought A) → (l : Left A D) × Leaves K B d b l
+    some-merged B allows d b =
+        let m = K .state d in
+        let r = mergedOf F M m (b .table) (b .mpx) (b .pilot) (b .first) (b .second) in
+        let a = block-sayable F m (length (b .table)) (length (b .mpx)) (length (b .pilot)) (length (b .first)) (length (b .second)) in
+        let y = w .reply (a .0) (w .make (r .pll)) in
+        (_, (lifetimes, (place, place, place, place, place), y, r .left, r .right, allows d b (a .0) (rw (a .1 ∙ sym (merged-said F M m (b .table) (b .mpx) (b .pilot) (b .first) (b .second)))), refl))
+
+    -- the matrix of what a block leaves
+    some-matrix : (B : BlockLearnt A D R) → AllowsBlock B → (d : D) (b : Brought A) → (l : Left A D) × MatrixOf K (Leaves K B) d b l
+    some-matrix B allows d b =
+        let m = K .state d in
+        let r = blockOf F m (b .table) (b .mpx) (b .pilot) (b .first) (b .second) in
+        let a = block-sayable F m (length (b .table)) (length (b .mpx)) (length (b .pilot)) (length (b .first)) (length (b .second)) in
+        let y = w .reply (a .0) (w .make (r .pll)) in
+        (_, (K .said y, r .sum, r .difference, K .decoder y, some-block B allows d b .1, refl))
+
+    module _ (W : Decoder A D) (blocks : (d : D) (b : Brought A) → (l : Left A D) × W .block d b l) (mergeds : (d : D) (b : Brought A) → (l : Left A D) × W .merged d b l) where
+      one : (d : D) (c : Call A) → (l : Left A D) × May K W d c l
+      one d (block b) = blocks d b
+      one d (merged b) = mergeds d b
+      one d enable = let e = w .make (enabledOf true (K .state d)) in (done e, (e, w .enables d, refl))
+      one d disable = let e = w .make (enabledOf false (K .state d)) in (done e, (e, w .disables d, refl))
+      one d reset = let e = w .make (resetOf (F .nought) (K .state d)) in (done e, (e, w .resets d, refl))
+
+      some-run : (d : D) (cs : List (Call A)) → (ls : List (Left A D)) × Runs K W d cs ls
+      some-run d [] = ([], tt)
+      some-run d (c ∷ cs) = let l = one d c in let n = some-run (l .0 .decoder) cs in (l .0 ∷ n .0, (l .1, n .1))
+
+    plainly : AllowsBlock (K .plain) → (d : D) (cs : List (Call A)) → (ls : List (Left A D)) × Runs K (plainDecoder K) d cs ls
+    plainly p = some-run (plainDecoder K) (some-block (K .plain) p) (some-matrix (K .plain) p)
+
+    fastly : AllowsBlock (K .fast) → AllowsMerged (K .merged) → (d : D) (cs : List (Call A)) → (ls : List (Left A D)) × Runs K (fastDecoder K) d cs ls
+    fastly f m = some-run (fastDecoder K) (some-block (K .fast) f) (some-merged (K .merged) m)
 
 abbrev recordF32 : Pll Float → StereoPllF32
 recordF32 d =
@@ -116,27 +162,23 @@ recordQ15 d =
     let m = d .moving in
     record { kp = g .kp; ki = g .ki; imax = g .imax; beta = g .beta; on = g .on; off = g .off; step0 = g .step0; phase = m .phase; integ = m .integ; level = m .level; stereo = m .stereo; enabled = d .enabled }
 
-abbrev allows-f32 : (B : BlockLearnt Float StereoPllF32 ReplyF32) → ((d : StereoPllF32) (t x p y z : List Float) (a : Answer) → let b = blockOf (F32 .arithmetic) (F32 .state d) t x p y z in
-    _≡_ {A = Blocked Float} (record { said = says a; sum = b .sum; difference = b .difference; pll = b .pll }) b
-    → B lifetimes d (lent place t) (lent place x) (lent place p) (lent place y) (lent place z) (record { answer = a; decoder = recordF32 (b .pll) }) (lent place (b .sum)) (lent place (b .difference))) → Allows F32 B
-allows-f32 B e = record { make = recordF32; reply = λ a d. record { answer = a; decoder = d }; blocks = e; enables = λ d. refl; disables = λ d. refl; resets = λ d. refl }
+abbrev allows-f32 : Allows F32
+allows-f32 = record { make = recordF32; reply = λ a d. record { answer = a; decoder = d }; enables = λ d. refl; disables = λ d. refl; resets = λ d. refl }
 
-pub plainly-f32 : (d : StereoPllF32) (cs : List (Call Float)) → (ls : List (Left Float StereoPllF32)) × Runs F32 (F32 .plain) d cs ls
-plainly-f32 = some-run F32 (F32 .plain) (allows-f32 (F32 .plain) (λ d t x p y z a h. h))
+pub plainly-f32 : (d : StereoPllF32) (cs : List (Call Float)) → (ls : List (Left Float StereoPllF32)) × Runs F32 (plainDecoder F32) d cs ls
+plainly-f32 = plainly F32 allows-f32 (λ d b a h. h)
 
-pub fastly-f32 : (d : StereoPllF32) (cs : List (Call Float)) → (ls : List (Left Float StereoPllF32)) × Runs F32 (F32 .fast) d cs ls
-fastly-f32 = some-run F32 (F32 .fast) (allows-f32 (F32 .fast) (λ d t x p y z a h. h))
+pub fastly-f32 : (d : StereoPllF32) (cs : List (Call Float)) → (ls : List (Left Float StereoPllF32)) × Runs F32 (fastDecoder F32) d cs ls
+fastly-f32 = fastly F32 allows-f32 (λ d b a h. h) (λ d b a h. h)
 
-abbrev allows-q15 : (B : BlockLearnt ℤ StereoPllQ15 ReplyQ15) → ((d : StereoPllQ15) (t x p y z : List ℤ) (a : Answer) → let b = blockOf (Q15 .arithmetic) (Q15 .state d) t x p y z in
-    _≡_ {A = Blocked ℤ} (record { said = says a; sum = b .sum; difference = b .difference; pll = b .pll }) b
-    → B lifetimes d (lent place t) (lent place x) (lent place p) (lent place y) (lent place z) (record { answer = a; decoder = recordQ15 (b .pll) }) (lent place (b .sum)) (lent place (b .difference))) → Allows Q15 B
-allows-q15 B e = record { make = recordQ15; reply = λ a d. record { answer = a; decoder = d }; blocks = e; enables = λ d. refl; disables = λ d. refl; resets = λ d. refl }
+abbrev allows-q15 : Allows Q15
+allows-q15 = record { make = recordQ15; reply = λ a d. record { answer = a; decoder = d }; enables = λ d. refl; disables = λ d. refl; resets = λ d. refl }
 
-pub plainly-q15 : (d : StereoPllQ15) (cs : List (Call ℤ)) → (ls : List (Left ℤ StereoPllQ15)) × Runs Q15 (Q15 .plain) d cs ls
-plainly-q15 = some-run Q15 (Q15 .plain) (allows-q15 (Q15 .plain) (λ d t x p y z a h. h))
+pub plainly-q15 : (d : StereoPllQ15) (cs : List (Call ℤ)) → (ls : List (Left ℤ StereoPllQ15)) × Runs Q15 (plainDecoder Q15) d cs ls
+plainly-q15 = plainly Q15 allows-q15 (λ d b a h. h)
 
-pub fastly-q15 : (d : StereoPllQ15) (cs : List (Call ℤ)) → (ls : List (Left ℤ StereoPllQ15)) × Runs Q15 (Q15 .fast) d cs ls
-fastly-q15 = some-run Q15 (Q15 .fast) (allows-q15 (Q15 .fast) (λ d t x p y z a h. h))
+pub fastly-q15 : (d : StereoPllQ15) (cs : List (Call ℤ)) → (ls : List (Left ℤ StereoPllQ15)) × Runs Q15 (fastDecoder Q15) d cs ls
+fastly-q15 = fastly Q15 allows-q15 (λ d b a h. h) (λ d b a h. h)
 
 -- ---- construction does make decoders
 abbrev some-arguments : Arguments

@@ -1,45 +1,73 @@
--- The machine over whole calls. Source: document 01, "The machine over whole calls". Definitions only.
+-- The machine over whole calls. Sources: document 01, "The machine over whole calls"; document 02, request 1.
+-- Definitions only.
 use mathlib.Core.Bool.{true, false, cond}
 use mathlib.Core.List.{List, [], _∷_, _++_}
 use lib.ListN.{length, getD}
 use Rattle.answers.specs.Answer.{Said, accepted, accepts}
 use Rattle.answers.specs.Samples.{samples}
+use Rattle.matrix.specs.Matrix.{Matrixed}
 use Rattle.decoder_record.specs.State.{Pll, enabledOf, resetOf}
 use Rattle.decoder.specs.Machine.{Arithmetic, blockOf}
+use Rattle.merged.specs.Merged.{mergedOf}
 use Rattle.calls.specs.Events.{Event, sample, switch, clear}
+
+-- what a block of either sort brings: its inputs, and what its two outputs held
+pub record Brought (A : Type 0) : Type 0 where
+  pub table : List A
+  pub mpx : List A
+  pub pilot : List A
+  -- sum and difference, or left and right
+  pub first : List A
+  pub second : List A
 
 -- a call with what it brings
 pub data Call (A : Type 0) : Type 0 where
-  -- table, mpx, pilot, and what the sum and the difference output held
-  block : List A → List A → List A → List A → List A → Call A
+  block merged : Brought A → Call A
   enable disable reset : Call A
 
--- what a call leaves: its answer, its outputs in the order in which document 01 names them, and the decoder
+-- one output of a call as it is left; a call with outputs of another sort adds a case
+pub data Output (A : Type 0) : Type 0 where
+  signal : List A → Output A
+
+-- what a call leaves: its answer, its outputs in the order in which the documents name them, and the decoder
 pub record Left (A D : Type 0) : Type 0 where
   pub said : Said
-  pub outputs : List (List A)
+  pub outputs : List (Output A)
   pub decoder : D
+
+-- a call that has two signals for outputs
+abbrev pub leaving : {A D : Type 0} → Said → List A → List A → D → Left A D
+leaving said first second d = record { said = said; outputs = signal first ∷ signal second ∷ []; decoder = d }
 
 -- a call that is never turned back, and has no outputs
 abbrev pub done : {A D : Type 0} → D → Left A D
 done d = record { said = accepted; outputs = []; decoder = d }
 
-module _ {A : Type 0} (F : Arithmetic A) where
+-- over the format, by its arithmetic and its matrix
+module _ {A : Type 0} (F : Arithmetic A) (matrix : List A → List A → Matrixed A) where
   -- what the machine leaves in the state d
   abbrev pub callOf : Pll A → Call A → Left A (Pll A)
-  callOf d (block t mpx pilot sum difference) =
-      let b = blockOf F d t mpx pilot sum difference in
-      record { said = b .said; outputs = b .sum ∷ b .difference ∷ []; decoder = b .pll }
+  callOf d (block b) =
+      let r = blockOf F d (b .table) (b .mpx) (b .pilot) (b .first) (b .second) in
+      leaving (r .said) (r .sum) (r .difference) (r .pll)
+  callOf d (merged b) =
+      let r = mergedOf F matrix d (b .table) (b .mpx) (b .pilot) (b .first) (b .second) in
+      leaving (r .said) (r .left) (r .right) (r .pll)
   callOf d enable = done (enabledOf true d)
   callOf d disable = done (enabledOf false d)
   callOf d reset = done (resetOf (F .nought) d)
 
-  -- the events that a call makes: the samples of an accepted block in order, and of a refused one none
-  abbrev pub eventsOf : Pll A → Call A → List (Event A)
-  eventsOf d (block t mpx pilot sum difference) =
-      cond (accepts (blockOf F d t mpx pilot sum difference .said))
-      (samples (length mpx) (λ i. sample t (getD mpx i (F .nought)) (getD pilot i (F .nought))))
+  -- the samples of an accepted block in order, and of a refused one none
+  abbrev pub samplesOf : Pll A → Brought A → List (Event A)
+  samplesOf d b =
+      cond (accepts (blockOf F d (b .table) (b .mpx) (b .pilot) (b .first) (b .second) .said))
+      (samples (length (b .mpx)) (λ i. sample (b .table) (getD (b .mpx) i (F .nought)) (getD (b .pilot) i (F .nought))))
       []
+
+  -- the events that a call makes
+  abbrev pub eventsOf : Pll A → Call A → List (Event A)
+  eventsOf d (block b) = samplesOf d b
+  eventsOf d (merged b) = samplesOf d b
   eventsOf d enable = switch true ∷ []
   eventsOf d disable = switch false ∷ []
   eventsOf d reset = clear ∷ []

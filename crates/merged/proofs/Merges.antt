@@ -4,7 +4,6 @@ use mathlib.Core.Bool.{Bool, true, false, cond, false≢true}
 use mathlib.Core.List.{List}
 use lib.ListN.{length}
 use Rattle.answers.specs.Answer.{Said, accepted, turned, lengths, accepts}
-use Rattle.answers.proofs.Causes.{none-yet}
 use Rattle.answers.proofs.Passes.{length-samples}
 use Rattle.matrix.specs.Matrix.{Matrixed}
 use Rattle.decoder_record.specs.State.{Pll}
@@ -43,7 +42,7 @@ module _ {A : Type 0} (F : Arithmetic A) (t mpx pilot left right : List A) (d : 
 
     -- a merged block from what its block answered and left
     abbrev of : Blocked A → Merged A
-    of z = let m = mergedBy matrix (z .said) (z .sum) (z .difference) in record { said = m .said; left = m .left; right = m .right; pll = z .pll }
+    of z = let m = mergedBy matrix (z .said) (z .sum) (z .difference) in record { said = z .said; left = m .left; right = m .right; pll = z .pll }
 
     is-merged : of (record { said = s; sum = sum; difference = difference; pll = next }) ≡ mergedOf F matrix d t mpx pilot left right
     unfolding mergedOf
@@ -54,4 +53,4 @@ module _ {A : Type 0} (F : Arithmetic A) (t mpx pilot left right : List A) (d : 
 
     pub carried-out : {ls rs : List A} → accepts s ≡ true → record { said = accepted; left = ls; right = rs } ≡ matrix sum difference
         → record { said = s; left = ls; right = rs; pll = next } ≡ mergedOf F matrix d t mpx pilot left right
-    carried-out h k = rw (none-yet s h) ((rw (h, ← k) at is-merged))
+    carried-out h k = rw (h, ← k) at is-merged

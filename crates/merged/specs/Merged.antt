@@ -6,7 +6,7 @@ use Rattle.matrix.specs.Matrix.{Matrixed}
 use Rattle.decoder_record.specs.State.{Pll}
 use Rattle.decoder.specs.Machine.{Arithmetic, blockOf}
 
--- from what a block answered and left in its outputs: their matrix, or its refusal and they as they are
+-- from what a block answered and left in its outputs: their matrix, or where it was refused they themselves
 abbrev pub mergedBy : {A : Type 0} → (List A → List A → Matrixed A) → Said → List A → List A → Matrixed A
 mergedBy matrix said sum difference =
     kept said (matrix sum difference) (record { said = said; left = sum; right = difference })
@@ -24,4 +24,4 @@ unfoldable pub mergedOf : {A : Type 0} → Arithmetic A → (List A → List A �
 mergedOf F matrix d t mpx pilot left right =
     let b = blockOf F d t mpx pilot left right in
     let m = mergedBy matrix (b .said) (b .sum) (b .difference) in
-    record { said = m .said; left = m .left; right = m .right; pll = b .pll }
+    record { said = b .said; left = m .left; right = m .right; pll = b .pll }
