@@ -13,7 +13,7 @@ use Rattle.decoder.specs.Machine.{Arithmetic, Blocked, blockOf}
 use Rattle.merged.specs.Merged.{mergedBy, Merged, mergedOf}
 use Rattle.calls.specs.Events.{Event, after, Locked, history}
 use Rattle.calls.specs.Calls.{Brought, Call, block, merged, enable, disable, reset, Output, signal, Left, leaving, done, callOf, machine, final, events}
-use Rattle.calls.specs.Demand.{lent, Arguments, BlockLearnt, Decoder, Format, Constructed, seen, Leaves, MatrixOf, plainDecoder, fastDecoder, May, Runs, lastRecord, After, Agreed, Demand}
+use Rattle.calls.specs.Demand.{lent, Arguments, BlockLearnt, Decoder, Format, Constructed, seen, Leaves, MatrixOf, plainDecoder, fastDecoder, OwnMatrix, May, Runs, lastRecord, After, Agreed, Demand}
 use Rattle.calls.proofs.Events.{final-after}
 use Rattle.calls.proofs.History.{stereo-locked, locked-stereo}
 
@@ -75,6 +75,10 @@ module _ {A D R N : Type 0} (K : Format A D R N) where
   matrix-leaves Block right d b l h =
       ap (seen K) (h .5) ∙ ap (λ (z : Left A (Pll A)). merging z (z .outputs)) (right d b (leaving (h .0) (h .1) (h .2) (h .3)) (h .4))
 
+  -- whatever the plain block does
+  pub own-matrix : OwnMatrix K
+  own-matrix d b l h = h
+
   module _ (W : Decoder A D) (right : BlocksRight W) (sets : SetsRight) where
     one : (d : D) (c : Call A) (l : Left A D) → May K W d c l → seen K l ≡ callOf F M (K .state d) c
     one d (block b) l h = right .as-block d b l h
@@ -115,7 +119,7 @@ module _ {A D R N : Type 0} (K : Format A D R N) where
     plain-blocks : BlocksRight (plainDecoder K)
     plain-blocks =
         let own = block-leaves (K .plain) (s .plain-right) in
-        record { as-block = own; as-merged = matrix-leaves (Leaves K (K .plain)) own }
+        record { as-block = own; as-merged = λ d b l h. matrix-leaves (Leaves K (K .plain)) own d b l (own-matrix d b l h) }
 
     fast-blocks : BlocksRight (fastDecoder K)
     fast-blocks = record { as-block = block-leaves (K .fast) (s .fast-right); as-merged = merged-leaves (K .merged) (s .merged-right) }

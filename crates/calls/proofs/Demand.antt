@@ -20,7 +20,7 @@ use Rattle.calls.specs.Events.{after}
 use Rattle.calls.specs.Demand.{Arguments}
 use Rattle.calls.proofs.LimitF32.{bounded-new, bounded-always}
 use Rattle.calls.proofs.LimitQ15.{fit-always}
-use Rattle.calls.proofs.Agreement.{Shown, demand}
+use Rattle.calls.proofs.Agreement.{own-matrix, Shown, demand}
 use Rattle.calls.proofs.Functions.{F32, builtF32, Q15, builtQ15, Demand3}
 use Rattle.calls.proofs.Witness.{some-f32, plainly-f32, fastly-f32, some-q15, plainly-q15, fastly-q15}
 use Rattle.decoder_record.proofs.pll_f32.StereoPllF32.new.Reads as f32-make
@@ -119,7 +119,7 @@ demand3 = record {
   q15-enable-callable = λ w γ k same. q15-enable.known w γ k q15-enable-symbol.routine same (q15-enable-met.met (w .𝓤) (w .H) (w .𝓜) (w .𝓖) (w .𝓡));
   q15-disable-callable = λ w γ k same. q15-disable.known w γ k q15-disable-symbol.routine same (q15-disable-met.met (w .𝓤) (w .H) (w .𝓜) (w .𝓖) (w .𝓡));
   q15-reset-callable = λ w γ k same. q15-reset.known w γ k q15-reset-symbol.routine same (q15-reset-met.met (w .𝓤) (w .H) (w .𝓜) (w .𝓖) (w .𝓡));
-  own-matrix = λ K d b l h. h;
+  own-matrix = own-matrix;
   in-f32 = demand F32 shown-f32;
   in-q15 = demand Q15 shown-q15;
 }

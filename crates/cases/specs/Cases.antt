@@ -1,4 +1,5 @@
--- Document 01's cases P1 to P12 as one table. Source: document 01, "Cases marked P". Definitions only.
+-- Document 01's cases P1 to P12 as one table, P10 and P11 again through the merged block. Sources: document 01,
+-- "Cases marked P"; document 02, request 1. Definitions only.
 use Prim.Native.Nat.{ℕ, _*_}
 use mathlib.Core.Bool.{Bool, true, false}
 use mathlib.Core.List.{List, [], _∷_}
@@ -9,11 +10,11 @@ use lib.Ieee.{Float, nan, inf, fin}
 use Rattle.answers.specs.Answer.{accepted, entries}
 use Rattle.phase.specs.Lookup.{cosQ15}
 use Rattle.phase.specs.Correction.{correctionOf}
-use Rattle.matrix.specs.Matrix.{leftQ15, rightQ15}
+use Rattle.matrix.specs.Matrix.{leftQ15, rightQ15, filledQ15}
 use Rattle.encoder.specs.Multiplex.{multiplexOf}
 use Rattle.decoder_record.specs.State.{Pll}
 use Rattle.decoder_q15.specs.Q15.{q15}
-use Rattle.calls.specs.Calls.{Call, block, Left, machine}
+use Rattle.calls.specs.Calls.{Brought, Call, block, merged, Left, leaving, machine}
 
 -- a row: what is asked, and what document 01 says
 pub data Case : Type 0 where
@@ -32,7 +33,7 @@ abbrev pub Says : Case → Type 0
 Says (lookup a b p want) = cosQ15 (a ∷ b ∷ replicate 4095 (pos 0)) p ≡ want
 Says (correction f want) = correctionOf f ≡ want
 Says (matrix s d left right) = (leftQ15 s d ≡ left) × (rightQ15 s d ≡ right)
-Says (calls d cs want) = machine q15 d cs ≡ want
+Says (calls d cs want) = machine q15 filledQ15 d cs ≡ want
 Says (multiplex v main pilot phase left right want) =
     multiplexOf (replicate entries v) main pilot phase left right ≡ want
 
@@ -60,13 +61,23 @@ decoder phase integ level stereo = record {
   enabled = true;
 }
 
--- a block of one sample, mpx 3 and this pilot, with a table of 16384 throughout; the outputs held 0
-abbrev pub one : ℤ → Call ℤ
-one pilot = block (replicate entries (pos 16384)) (pos 3 ∷ []) (pilot ∷ []) (pos 0 ∷ []) (pos 0 ∷ [])
+-- a block of one sample, with this value throughout the table, this mpx and this pilot; the outputs held 0
+abbrev pub brought : ℤ → ℤ → ℤ → Brought ℤ
+brought value mpx pilot = record {
+  table = replicate entries value;
+  mpx = mpx ∷ [];
+  pilot = pilot ∷ [];
+  first = pos 0 ∷ [];
+  second = pos 0 ∷ [];
+}
 
--- such a block accepted: its sum, its difference and the decoder after it
+-- P3's block, with this pilot
+abbrev pub one : ℤ → Call ℤ
+one pilot = block (brought (pos 16384) (pos 3) pilot)
+
+-- such a block accepted: its two outputs and the decoder after it
 abbrev pub gave : ℤ → ℤ → Pll ℤ → Left ℤ (Pll ℤ)
-gave sum difference d = record { said = accepted; outputs = (sum ∷ []) ∷ (difference ∷ []) ∷ []; decoder = d }
+gave first second d = leaving accepted (first ∷ []) (second ∷ []) d
 
 abbrev pub fresh : Pll ℤ
 fresh = decoder 0 (pos 0) (pos 0) false
@@ -99,6 +110,11 @@ cases =
     -- P10, P11
     ∷ matrix (pos 20000) (pos 10000) (pos 32767) (pos 0)
     ∷ matrix (negsuc 32767) (pos 20000) (pos 7232) (negsuc 32767)
+    -- P10 and P11 merged: mpx times the table's value is P10's and P11's difference, and the pilot lights the lamp
+    ∷ calls fresh (merged (brought (pos 16384) (pos 20000) (pos 2)) ∷ [])
+    (gave (pos 32767) (pos 0) (decoder 101 (pos 32768) (pos 2147483648) true) ∷ [])
+    ∷ calls fresh (merged (brought (negsuc 19999) (negsuc 32767) (negsuc 1)) ∷ [])
+    (gave (pos 7232) (negsuc 32767) (decoder 101 (pos 40000) (pos 2621440000) true) ∷ [])
     -- P12
     ∷ multiplex (fin false 1 (pos 0)) (fin false 1 (pos 0)) (fin false 1 (negsuc 2)) 0
     (fin false 1 (negsuc 0)) (fin false 1 (negsuc 1)) (fin false 5 (negsuc 2))

@@ -48,9 +48,16 @@ module _ {A : Type 0} (F : Arithmetic A) (t mpx pilot left right : List A) (d : 
     unfolding mergedOf
     is-merged = ap of b
 
+    -- its outputs by the test of the answer, and all that it leaves by its outputs
+    abbrev sides : Bool → Matrixed A
+    sides a = cond a (matrix sum difference) (record { said = s; left = sum; right = difference })
+
+    abbrev leaves : Matrixed A → Merged A
+    leaves m = record { said = s; left = m .left; right = m .right; pll = next }
+
     pub refused : accepts s ≡ false → record { said = s; left = sum; right = difference; pll = next } ≡ mergedOf F matrix d t mpx pilot left right
-    refused h = rw h at is-merged
+    refused h = ap (λ (a : Bool). leaves (sides a)) (sym h) ∙ is-merged
 
     pub carried-out : {ls rs : List A} → accepts s ≡ true → record { said = accepted; left = ls; right = rs } ≡ matrix sum difference
         → record { said = s; left = ls; right = rs; pll = next } ≡ mergedOf F matrix d t mpx pilot left right
-    carried-out h k = rw (h, ← k) at is-merged
+    carried-out h k = ap leaves (k ∙ ap sides (sym h)) ∙ is-merged

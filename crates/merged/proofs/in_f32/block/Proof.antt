@@ -19,7 +19,8 @@ returns c = refused f32 _ _ _ _ _ _ filledF32 (turned c .block .ensures) (failed
 matrix-in-place-requires : tie.Need-matrix-in-place-requires
 matrix-in-place-requires c κs =
     let e = c .before .before in
-    even f32 _ _ _ _ _ _ filledF32 (taken e .block .ensures) (passed (e .before .is-accepted .ensures) (e .if1 .left))
+    let same = even f32 _ _ _ _ _ _ filledF32 (taken e .block .ensures) (passed (e .before .is-accepted .ensures) (e .if1 .left)) in
+    search needs
 
 returns-2 : tie.Need-returns-2
 returns-2 c =

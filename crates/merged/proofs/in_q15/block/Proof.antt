@@ -19,7 +19,8 @@ returns c = refused q15 _ _ _ _ _ _ filledQ15 (turned c .block .ensures) (failed
 matrix-in-place-requires : tie.Need-matrix-in-place-requires
 matrix-in-place-requires c κs =
     let e = c .before .before in
-    even q15 _ _ _ _ _ _ filledQ15 (taken e .block .ensures) (passed (e .before .is-accepted .ensures) (e .if1 .left))
+    let same = even q15 _ _ _ _ _ _ filledQ15 (taken e .block .ensures) (passed (e .before .is-accepted .ensures) (e .if1 .left)) in
+    search needs
 
 returns-2 : tie.Need-returns-2
 returns-2 c =
