@@ -1,3 +1,4 @@
+pub mod Early
 pub mod Samples
 pub mod Level
 pub mod Kept

@@ -1,6 +1,6 @@
-// The fast Q15 block (fallback/stereo.rs): the table sums in 32 bits, and the level's rounding
-// without the stop that a fit level never reaches. The correction's rounding stops at the largest
-// i64, as the plain one does.
+// The fast Q15 block (fallback/stereo.rs): the table sums in 32 bits, the integrator's product with
+// the cosine last, and the level's rounding without the stop that a fit level never reaches. The
+// correction's rounding stops at the largest i64, as the plain one does.
 use crate::parts::ReplyQ15;
 use crate::parts::StepQ15;
 use crate::parts::advanced;
@@ -16,9 +16,10 @@ use phase::lookup::sine_at;
 use phase::lookup::sine_at_twice;
 ghost use mathlib.Core.Path.{_≡_};
 ghost use mathlib.Core.Bool.{true};
-ghost use Prim.Native.Nat.{_≤_, _^_};
+ghost use Prim.Native.Nat.{_+_, _*_, _≤_, _<_, _^_};
 ghost use lib.ListN.{length};
-ghost use lib.IntN.{natAbs, _*ℤ_};
+ghost use lib.IntN.{pos, natAbs, _+ℤ_, _*ℤ_};
+ghost use lib.Signed.{leZ};
 ghost use Rattle.numbers.specs.Integers.{sat16Of, roundShiftOf};
 ghost use Rattle.answers.specs.Answer.{says, accepted};
 ghost use Rattle.decoder.specs.Machine.{stepOf, runOf, blockOf};
@@ -34,12 +35,21 @@ fn level_next(beta: i64, level: i64, q: i64) -> i64
     level_after(beta, level, q, (level + 1073741824) >> 31)
 }
 
-// The exact product of a sample and a table value, which lies within an i16.
+// The exact product of a sample and a table value, which lies within an i16. It is worked out in 32
+// bits: in 64 the compiler would take it in the place of `gathered`'s first product.
 fn product(a: i16, b: i32) -> i64
     requires { ⌜ natAbs b ≤ 2 ^ 15 ⌝ }
     ensures { λ r. ⌜ r ≡ a *ℤ b ⌝ }
 {
-    (a as i64) * (b as i64)
+    ((a as i32) * b) as i64
+}
+
+// The integrator with a sample's part: ki times p does not wait for the cosine c.
+fn gathered(ki: i64, p: i16, c: i32, integ: i64) -> i64
+    requires { ⌜ natAbs c ≤ 2 ^ 15 ⌝ ∗ ⌜ leZ (pos 0) ki ≡ true ⌝ ∗ ⌜ natAbs ki * 2 ^ 30 + natAbs integ < 2 ^ 63 ⌝ }
+    ensures { λ r. ⌜ r ≡ ki *ℤ (p *ℤ c) +ℤ integ ⌝ }
+{
+    ki * (p as i64) * (c as i64) + integ
 }
 
 // The demodulated sample, rounded in 32 bits and limited.
@@ -64,7 +74,7 @@ fn step(table: &[i16], d: StereoPllQ15, x: i16, p: i16) -> StepQ15
     let s = interp_q15(table, sine_at(d.phase));
     let s2 = interp_q15(table, sine_at_twice(d.phase));
     let level = level_next(d.beta, d.level, product(p, s));
-    let next = advanced(d, product(p, c), level);
+    let next = advanced(d, product(p, c), gathered(d.ki, p, c, d.integ), level);
     StepQ15 {
         next,
         difference: selected(next.stereo & next.enabled, demodulated(x, s2)),

@@ -70,12 +70,13 @@ pub(crate) fn level_after(beta: i64, level: i64, q: i64, rounded: i64) -> i64
     level + beta * (q - rounded)
 }
 
-// The decoder after a sample whose error is e and whose level is `level`.
-pub(crate) fn advanced(mut d: StereoPllQ15, e: i64, level: i64) -> StereoPllQ15
-    requires { ⌜ fitQ15 (pllQ15 d) ≡ true ⌝ ∗ ⌜ natAbs e ≤ 2 ^ 30 ⌝ }
+// The decoder after a sample whose error is e and whose level is `level`; `gathered` is the
+// integrator with the sample's part, before its limit.
+pub(crate) fn advanced(mut d: StereoPllQ15, e: i64, gathered: i64, level: i64) -> StereoPllQ15
+    requires { ⌜ fitQ15 (pllQ15 d) ≡ true ⌝ ∗ ⌜ natAbs e ≤ 2 ^ 30 ⌝ ∗ ⌜ gathered ≡ d .ki *ℤ e +ℤ d .integ ⌝ }
     ensures { λ r. ⌜ pllQ15 r ≡ advancedBy q15 (pllQ15 d) e level (decideQ15 level (d .on) (d .off) (d .stereo)) ⌝ }
 {
-    let integ = within(d.imax, scaled_sum(d.ki, e, d.integ));
+    let integ = within(d.imax, gathered);
     let correction = low32(round_shift(scaled_sum(d.kp, e, integ), 32));
     d.phase = phase_after(d.phase, d.step0, correction);
     d.integ = integ;

@@ -5,6 +5,7 @@ use crate::parts::advanced;
 use crate::parts::block_answer;
 use crate::parts::full_table;
 use crate::parts::level_after;
+use crate::parts::scaled_sum;
 use answers::answer::is_accepted;
 use decoder_parts::in_q15::selected;
 use decoder_record::pll_q15::StereoPllQ15;
@@ -44,7 +45,8 @@ fn step(table: &[i16], d: StereoPllQ15, x: i16, p: i16) -> StepQ15
     let s = cos_q15(table, sine_at(d.phase));
     let s2 = cos_q15(table, sine_at_twice(d.phase));
     let level = level_next(d.beta, d.level, q15_product(p, s));
-    let next = advanced(d, q15_product(p, c), level);
+    let e = q15_product(p, c);
+    let next = advanced(d, e, scaled_sum(d.ki, e, d.integ), level);
     StepQ15 {
         next,
         difference: selected(next.stereo & next.enabled, q15_mul(x, s2)),

@@ -10,8 +10,9 @@ use Rattle.phase.specs.Lookup.{sineAt, cosQ15}
 use Rattle.decoder_record.specs.State.{Pll}
 use Rattle.decoder_q15.specs.Q15.{levelQ15}
 use Rattle.decoder_record.specs.Records.{pllQ15}
-use Rattle.decoder_record.proofs.Fit.{level-fit}
+use Rattle.decoder_record.proofs.Fit.{fitted, level-fit}
 use Rattle.decoder_record.proofs.Held.{Held, held}
+use Rattle.decoder_q15.proofs.Kept.{ki-room}
 use Rattle.decoder_q15.proofs.Samples.{step-q15-is, lookup-le, product-small}
 use Rattle.decoder_q15.proofs.fast.step.Statement.{statement}
 use Rattle.decoder_q15.proofs.fast.step.Tie as tie
@@ -66,14 +67,24 @@ product-requires-2 c κs =
     let r = c .before .before .before .before .before .before .before .before in
     lookup-le (T (r .before)) (D (r .before) .moving .phase) (c-is r)
 
+gathered-requires : tie.Need-gathered-requires
+gathered-requires c κs =
+    let k = known (c .before .before .before .before .before) in
+    let r = c .before .before .before .before .before .before .before .before .before .before .before in
+    let s = r .before in
+    (lookup-le (T s) (D s .moving .phase) (c-is r), rw (toZ-ofZ (k .ki), toZ-ofZ (k .integ)) (fitted (D s) (s .pre) .ki, ki-room (D s) (s .pre)))
+
 advanced-requires : tie.Need-advanced-requires
 advanced-requires c κs =
-    let s = c .before .before .before .before .before .before .before .before .before .before in
-    (s .pre, product-small (T s) (s .args .p) (D s .moving .phase) (s .fits .p) (e-is c))
+    let e = c .before .before .before in
+    let k = known (c .before .before .before .before .before .before) in
+    let r = c .before .before .before .before .before .before .before .before .before .before .before .before in
+    let s = r .before in
+    (s .pre, (product-small (T s) (s .args .p) (D s .moving .phase) (s .fits .p) (e-is e), back w64 (c .gathered .result) (c .gathered .ok) ∙ c .gathered .ensures ∙ rw (toZ-ofZ (k .ki), toZ-ofZ (s .fits .p), c-is r, toZ-ofZ (k .integ), e-is e)))
 
 demodulated-requires : tie.Need-demodulated-requires
 demodulated-requires c κs =
-    let r = c .before .before .before .before .before .before .before in
+    let r = c .before .before .before .before .before .before .before .before .before .before in
     let s = r .before .before .before .before .before in
     lookup-le (T s) (sineAt 2 (D s .moving .phase)) (s2-is r)
 
@@ -81,7 +92,7 @@ returns : tie.Need-returns
 returns c =
     let m = c .before in
     let a = m .before .before in
-    let e = a .before in
+    let e = a .before .before .before .before in
     let l = e .before in
     let r = l .before .before .before .before in
     let s = r .before .before .before .before .before in
@@ -102,6 +113,7 @@ step-spec =
     product-requires
     level-next-requires
     product-requires-2
+    gathered-requires
     advanced-requires
     demodulated-requires
     (λ c κs. search needs)

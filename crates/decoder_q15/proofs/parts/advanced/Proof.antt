@@ -11,7 +11,7 @@ use Rattle.decoder_record.specs.Records.{pllQ15}
 use Rattle.decoder_record.proofs.Fit.{limit}
 use Rattle.decoder_parts.specs.Rules.{decideQ15}
 use Rattle.decoder.proofs.Steps.{advanced-is}
-use Rattle.decoder_q15.proofs.Kept.{ki-room, kp-room}
+use Rattle.decoder_q15.proofs.Kept.{kp-room}
 use Rattle.decoder_record.proofs.Held.{Held, held}
 use Rattle.decoder_q15.proofs.parts.advanced.Statement.{statement}
 use Rattle.decoder_q15.proofs.parts.advanced.Tie as tie
@@ -24,25 +24,20 @@ module _ (c : tie.Start) where
 abbrev k : (c : tie.After-struct-told) → Held (c .before .args .d)
 k c = held (c .before .args .d) (c .struct-told .given)
 
-integ-is : (c : tie.After-within) → let s = c .before .before .before .before .before in c .within .result ≡ limited q15 (D s .gains .imax) (D s .moving .integ +ℤ D s .gains .ki *ℤ s .args .e)
+integ-is : (c : tie.After-within) → let s = c .before .before in c .within .result ≡ limited q15 (D s .gains .imax) (D s .moving .integ +ℤ D s .gains .ki *ℤ s .args .e)
 integ-is c =
-    let g = c .before .before in
-    let s = g .before .before in
-    c .within .ensures ∙ rw (toZ-ofZ (k s .imax), back w64 (g .scaled-sum .result) (g .scaled-sum .ok), g .scaled-sum .ensures, toZ-ofZ (k s .ki), toZ-ofZ (s .before .fits .e), toZ-ofZ (k s .integ), +ℤ-comm (D (s .before) .gains .ki *ℤ s .before .args .e) (D (s .before) .moving .integ))
+    let s = c .before in
+    let a = s .before in
+    c .within .ensures ∙ rw (toZ-ofZ (k s .imax), toZ-ofZ (a .fits .gathered), a .pre .1 .1, +ℤ-comm (D a .gains .ki *ℤ a .args .e) (D a .moving .integ))
+
+within-requires : tie.Need-within-requires
+within-requires c κs = let s = c in rw (toZ-ofZ (k s .imax)) (limit (D (s .before)) (s .before .pre .0))
 
 scaled-sum-requires : tie.Need-scaled-sum-requires
 scaled-sum-requires c κs =
-    let s = c .before in
-    rw (toZ-ofZ (s .before .fits .e), toZ-ofZ (k s .ki), toZ-ofZ (k s .integ)) (s .before .pre .1, ki-room (D (s .before)) (s .before .pre .0))
-
-within-requires : tie.Need-within-requires
-within-requires c κs = let s = c .before .before .before in rw (toZ-ofZ (k s .imax)) (limit (D (s .before)) (s .before .pre .0))
-
-scaled-sum-requires-2 : tie.Need-scaled-sum-requires-2
-scaled-sum-requires-2 c κs =
     let w = c .before in
-    let s = w .before .before .before .before in
-    rw (toZ-ofZ (s .before .fits .e), toZ-ofZ (k s .kp), back w64 (w .within .result) (w .within .ok), integ-is w) (s .before .pre .1, kp-room (D (s .before)) (s .before .pre .0) _)
+    let s = w .before in
+    rw (toZ-ofZ (s .before .fits .e), toZ-ofZ (k s .kp), back w64 (w .within .result) (w .within .ok), integ-is w) (s .before .pre .1 .0, kp-room (D (s .before)) (s .before .pre .0) _)
 
 returns : tie.Need-returns
 returns c =
@@ -51,22 +46,21 @@ returns c =
     let r = l .before in
     let g = r .before in
     let w = g .before .before in
-    let s = w .before .before .before .before in
+    let s = w .before in
     let a = s .before in
     let j : c .decided .result ≡ decideQ15 (a .args .level) (D a .gains .on) (D a .gains .off) (D a .moving .stereo) = c .decided .ensures ∙ rw (toZ-ofZ (a .fits .level), toZ-ofZ (k s .on), toZ-ofZ (k s .off)) in
     rw (toZ-ofZ (a .fits .level), j)
     (advanced-is q15 (D a) (a .args .e) (a .args .level) (decideQ15 (a .args .level) (D a .gains .on) (D a .gains .off) (D a .moving .stereo))
     (back w64 (w .within .result) (w .within .ok) ∙ integ-is w)
-    (l .low32 .ensures ∙ rw (back w64 (r .round-shift .result) (r .round-shift .ok), r .round-shift .ensures, back w64 (g .scaled-sum2 .result) (g .scaled-sum2 .ok), g .scaled-sum2 .ensures, toZ-ofZ (k s .kp), toZ-ofZ (a .fits .e)))
+    (l .low32 .ensures ∙ rw (back w64 (r .round-shift .result) (r .round-shift .ok), r .round-shift .ensures, back w64 (g .scaled-sum .result) (g .scaled-sum .ok), g .scaled-sum .ensures, toZ-ofZ (k s .kp), toZ-ofZ (a .fits .e)))
     (m .phase-after .ensures))
 
 pub advanced-spec : {M : Type 1} → statement M
 advanced-spec =
     tie.close
     (tie.spec
-    scaled-sum-requires
     within-requires
-    scaled-sum-requires-2
+    scaled-sum-requires
     (λ c κs. search needs)
     (λ c κs. search needs)
     (λ c κs. search needs)

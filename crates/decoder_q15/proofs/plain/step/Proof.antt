@@ -12,6 +12,7 @@ use Rattle.decoder_q15.specs.Q15.{levelQ15}
 use Rattle.decoder_record.specs.Records.{pllQ15}
 use Rattle.decoder_record.proofs.Fit.{level-fit}
 use Rattle.decoder_record.proofs.Held.{Held, held}
+use Rattle.decoder_q15.proofs.Kept.{ki-room}
 use Rattle.decoder_q15.proofs.Samples.{step-q15-is, product-small}
 use Rattle.decoder_q15.proofs.plain.step.Statement.{statement}
 use Rattle.decoder_q15.proofs.plain.step.Tie as tie
@@ -55,16 +56,25 @@ level-next-requires c κs =
     let s = k .before .before .before .before .before .before .before in
     (rw (toZ-ofZ (known k .beta), toZ-ofZ (known k .level)) (level-fit (D s) (s .pre)), product-small (T s) (s .args .p) (sineAt 1 (D s .moving .phase)) (s .fits .p) (q-is (k .before)))
 
+scaled-sum-requires : tie.Need-scaled-sum-requires
+scaled-sum-requires c κs =
+    let e = c .before .before in
+    let k = known (c .before .before .before .before .before) in
+    let s = c .before .before .before .before .before .before .before .before .before .before .before .before in
+    (product-small (T s) (s .args .p) (D s .moving .phase) (s .fits .p) (e-is e), rw (toZ-ofZ (k .ki), toZ-ofZ (k .integ)) (ki-room (D s) (s .pre)))
+
 advanced-requires : tie.Need-advanced-requires
 advanced-requires c κs =
-    let s = c .before .before .before .before .before .before .before .before .before .before in
-    (s .pre, product-small (T s) (s .args .p) (D s .moving .phase) (s .fits .p) (e-is c))
+    let e = c .before .before .before in
+    let k = known (c .before .before .before .before .before .before) in
+    let s = c .before .before .before .before .before .before .before .before .before .before .before .before .before in
+    (s .pre, (product-small (T s) (s .args .p) (D s .moving .phase) (s .fits .p) (e-is e), back w64 (c .scaled-sum .result) (c .scaled-sum .ok) ∙ c .scaled-sum .ensures ∙ rw (toZ-ofZ (k .ki), toZ-ofZ (k .integ))))
 
 returns : tie.Need-returns
 returns c =
     let m = c .before in
     let a = m .before .before in
-    let e = a .before in
+    let e = a .before .before .before .before in
     let l = e .before in
     let r = l .before .before .before .before in
     let s = r .before .before .before .before .before in
@@ -85,6 +95,7 @@ step-spec =
     (λ c κs. search needs)
     level-next-requires
     (λ c κs. search needs)
+    scaled-sum-requires
     advanced-requires
     (λ c κs. search needs)
     (λ c κs. search needs)
