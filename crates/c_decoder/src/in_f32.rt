@@ -47,7 +47,8 @@ pub struct ReplyF32 {
     pub decoder: DecoderF32,
 }
 
-fn taken(d: DecoderF32) -> StereoPllF32
+// The machine's record from C's, for this crate and the others of the C boundary.
+pub fn taken(d: DecoderF32) -> StereoPllF32
     ensures { λ r. ⌜ pllF32 r ≡ takenOf (decoderF32 d) ⌝ }
 {
     StereoPllF32 {
@@ -66,7 +67,8 @@ fn taken(d: DecoderF32) -> StereoPllF32
     }
 }
 
-fn given(t: StereoPllF32) -> DecoderF32
+// And back.
+pub fn given(t: StereoPllF32) -> DecoderF32
     ensures { λ r. ⌜ decoderF32 r ≡ givenOf (pllF32 t) ⌝ }
 {
     DecoderF32 {

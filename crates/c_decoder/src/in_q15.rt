@@ -47,7 +47,8 @@ pub struct ReplyQ15 {
     pub decoder: DecoderQ15,
 }
 
-fn taken(d: DecoderQ15) -> StereoPllQ15
+// The machine's record from C's, for this crate and the others of the C boundary.
+pub fn taken(d: DecoderQ15) -> StereoPllQ15
     ensures { λ r. ⌜ pllQ15 r ≡ takenOf (decoderQ15 d) ⌝ }
 {
     StereoPllQ15 {
@@ -66,7 +67,8 @@ fn taken(d: DecoderQ15) -> StereoPllQ15
     }
 }
 
-fn given(t: StereoPllQ15) -> DecoderQ15
+// And back.
+pub fn given(t: StereoPllQ15) -> DecoderQ15
     ensures { λ r. ⌜ decoderQ15 r ≡ givenOf (pllQ15 t) ⌝ }
 {
     DecoderQ15 {

@@ -1,7 +1,7 @@
 // Both decoders and both matrices under C names, for a program in Rust or C to call. A decoder's
 // record goes in and out by value, a slice is a pointer and then a length, and answers are numbers,
 // as specs/Coded.antt defines them.
-mod in_f32;
-mod in_q15;
+pub mod in_f32;
+pub mod in_q15;
 mod matrices;
 mod shared;
