@@ -230,6 +230,30 @@ pescrondilu_q15_reply pescrondilu_q15_plain_block(
     int16_t *PESCRONDILU_RESTRICT difference, size_t difference_n);
 
 /*
+ * Left and right from one call, the fast way: sum + 2 difference and sum - 2 difference of what
+ * pescrondilu_f32_block would give, and the same record. The caller filters left and right to the
+ * audio band. In mono the difference is +0, so that an mpx of -0.0f gives left +0 and right -0.
+ * Causes 9; 10 for pilot; 11 for left, then for right.
+ */
+pescrondilu_f32_reply pescrondilu_f32_merged_block(
+    pescrondilu_f32 d, const float *table, size_t table_n, const float *mpx, size_t mpx_n,
+    const float *pilot, size_t pilot_n, float *PESCRONDILU_RESTRICT left, size_t left_n,
+    float *PESCRONDILU_RESTRICT right, size_t right_n);
+
+/*
+ * The same in fixed point. Causes 0, then as in float.
+ *
+ * Left and right are limited to int16_t BEFORE the caller's low-pass. Since |1 + 2 sin| goes up to
+ * 3, a multiplex above a third of full scale can reach the limit where the filtered audio would not.
+ * So a caller hands in the multiplex with headroom, say at a quarter, the pilot staying as it is; or
+ * takes sum and difference by pescrondilu_q15_block, filters these and calls the matrix.
+ */
+pescrondilu_q15_reply pescrondilu_q15_merged_block(
+    pescrondilu_q15 d, const int16_t *table, size_t table_n, const int16_t *mpx, size_t mpx_n,
+    const int16_t *pilot, size_t pilot_n, int16_t *PESCRONDILU_RESTRICT left, size_t left_n,
+    int16_t *PESCRONDILU_RESTRICT right, size_t right_n);
+
+/*
  * Sum and difference to left and right: sum + 2 difference and sum - 2 difference, in fixed point
  * limited to int16_t. Causes 10 for difference; 11 for left, then for right.
  */

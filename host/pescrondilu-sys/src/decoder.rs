@@ -1,4 +1,4 @@
-//! crates/c_decoder. A struct that both formats have is one here, over the format's number V; S is
+//! crates/c_decoder and crates/c_merged. A struct that both formats have is one here, over the format's number V; S is
 //! the format's sample.
 
 use crate::Code;
@@ -104,13 +104,14 @@ pub trait Sample: Copy {
     const READ: Read<Self::Value>;
     const BLOCK: Block<Self::Value, Self>;
     const PLAIN_BLOCK: Block<Self::Value, Self>;
+    const MERGED_BLOCK: Block<Self::Value, Self>;
     const MATRIX: Matrix<Self>;
 }
 
 macro_rules! format {
     (
         $value:ty, $sample:ty, $new:ident, $enable:ident, $disable:ident, $reset:ident,
-        $read:ident, $block:ident, $plain_block:ident, $matrix:ident
+        $read:ident, $block:ident, $plain_block:ident, $merged_block:ident, $matrix:ident
     ) => {
         unsafe extern "C" {
             pub safe fn $new(
@@ -150,6 +151,19 @@ macro_rules! format {
                 difference: *mut $sample,
                 difference_n: usize,
             ) -> Reply<$value>;
+            pub fn $merged_block(
+                d: Decoder<$value>,
+                table: *const $sample,
+                table_n: usize,
+                mpx: *const $sample,
+                mpx_n: usize,
+                pilot: *const $sample,
+                pilot_n: usize,
+                left: *mut $sample,
+                left_n: usize,
+                right: *mut $sample,
+                right_n: usize,
+            ) -> Reply<$value>;
             pub fn $matrix(
                 sum: *const $sample,
                 sum_n: usize,
@@ -171,6 +185,7 @@ macro_rules! format {
             const READ: Read<$value> = $read;
             const BLOCK: Block<$value, $sample> = $block;
             const PLAIN_BLOCK: Block<$value, $sample> = $plain_block;
+            const MERGED_BLOCK: Block<$value, $sample> = $merged_block;
             const MATRIX: Matrix<$sample> = $matrix;
         }
     };
@@ -186,6 +201,7 @@ format!(
     pescrondilu_f32_read,
     pescrondilu_f32_block,
     pescrondilu_f32_plain_block,
+    pescrondilu_f32_merged_block,
     pescrondilu_matrix_f32
 );
 format!(
@@ -198,10 +214,11 @@ format!(
     pescrondilu_q15_read,
     pescrondilu_q15_block,
     pescrondilu_q15_plain_block,
+    pescrondilu_q15_merged_block,
     pescrondilu_matrix_q15
 );
 
-// SAFETY, for both calls below: a pointer and a length are those of one slice, and no output
+// SAFETY, for each call below: a pointer and a length are those of one slice, and no output
 // overlaps another argument.
 
 #[inline]
@@ -231,6 +248,33 @@ pub fn block<S: Sample>(
             sum.len(),
             difference.as_mut_ptr(),
             difference.len(),
+        )
+    }
+}
+
+/// Left and right, from the block's sum and difference.
+#[inline]
+pub fn merged_block<S: Sample>(
+    d: Decoder<S::Value>,
+    table: &[S],
+    mpx: &[S],
+    pilot: &[S],
+    left: &mut [S],
+    right: &mut [S],
+) -> Reply<S::Value> {
+    unsafe {
+        S::MERGED_BLOCK(
+            d,
+            table.as_ptr(),
+            table.len(),
+            mpx.as_ptr(),
+            mpx.len(),
+            pilot.as_ptr(),
+            pilot.len(),
+            left.as_mut_ptr(),
+            left.len(),
+            right.as_mut_ptr(),
+            right.len(),
         )
     }
 }

@@ -408,6 +408,24 @@ static void decoders(void)
         put_q15(r.decoder);
         put_outputs();
     })
+    EACH(pescrondilu_f32_merged_block, {
+        fill();
+        pescrondilu_f32_reply r =
+            pescrondilu_f32_merged_block(any_f32(), table, TABLE_N, in1, N, in2, length(N, 5), out1,
+                                         length(N, 6), out2, length(N, 7));
+        put_answer(r.answer);
+        put_f32(r.decoder);
+        put_outputs();
+    })
+    EACH(pescrondilu_q15_merged_block, {
+        fill();
+        pescrondilu_q15_reply r =
+            pescrondilu_q15_merged_block(any_q15(), table_q, TABLE_N, in1_q, N, in2_q, length(N, 5),
+                                         out1_q, length(N, 6), out2_q, length(N, 7));
+        put_answer(r.answer);
+        put_q15(r.decoder);
+        put_outputs();
+    })
     EACH(pescrondilu_matrix_f32, {
         fill();
         put_answer(pescrondilu_matrix_f32(in1, N, in2, length(N, 5), out1, length(N, 6), out2,

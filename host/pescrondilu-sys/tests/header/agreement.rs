@@ -35,6 +35,13 @@ const ODD32: [u32; 12] = [
 ];
 const SWITCHES: [u32; 4] = [0, 1, 2, 0xffffffff];
 
+/// Which of a format's three blocks.
+enum Which {
+    Fast,
+    Plain,
+    Merged,
+}
+
 /// The numbers of a case, the samples, and the lines. agreement.c says what each is.
 struct Calls {
     state: u64,
@@ -366,12 +373,13 @@ impl Calls {
     // ---- The blocks. SAFETY, for each: no length is above that of its slice, and no output
     // overlaps another argument.
 
-    fn f32_block(&mut self, way: Way) {
+    fn f32_block(&mut self, which: Which) {
         self.fill();
         let d = self.any_f32();
-        let call = match way {
-            Way::Fast => pescrondilu_f32_block,
-            Way::Plain => pescrondilu_f32_plain_block,
+        let call = match which {
+            Which::Fast => pescrondilu_f32_block,
+            Which::Plain => pescrondilu_f32_plain_block,
+            Which::Merged => pescrondilu_f32_merged_block,
         };
         let r = unsafe {
             call(
@@ -393,12 +401,13 @@ impl Calls {
         self.put_outputs();
     }
 
-    fn q15_block(&mut self, way: Way) {
+    fn q15_block(&mut self, which: Which) {
         self.fill();
         let d = self.any_q15();
-        let call = match way {
-            Way::Fast => pescrondilu_q15_block,
-            Way::Plain => pescrondilu_q15_plain_block,
+        let call = match which {
+            Which::Fast => pescrondilu_q15_block,
+            Which::Plain => pescrondilu_q15_plain_block,
+            Which::Merged => pescrondilu_q15_merged_block,
         };
         let r = unsafe {
             call(
@@ -557,10 +566,16 @@ impl Calls {
             let r = pescrondilu_q15_read(t.any_q15());
             t.put_readout(r);
         });
-        self.each("pescrondilu_f32_block", |t| t.f32_block(Way::Fast));
-        self.each("pescrondilu_f32_plain_block", |t| t.f32_block(Way::Plain));
-        self.each("pescrondilu_q15_block", |t| t.q15_block(Way::Fast));
-        self.each("pescrondilu_q15_plain_block", |t| t.q15_block(Way::Plain));
+        self.each("pescrondilu_f32_block", |t| t.f32_block(Which::Fast));
+        self.each("pescrondilu_f32_plain_block", |t| t.f32_block(Which::Plain));
+        self.each("pescrondilu_q15_block", |t| t.q15_block(Which::Fast));
+        self.each("pescrondilu_q15_plain_block", |t| t.q15_block(Which::Plain));
+        self.each("pescrondilu_f32_merged_block", |t| {
+            t.f32_block(Which::Merged)
+        });
+        self.each("pescrondilu_q15_merged_block", |t| {
+            t.q15_block(Which::Merged)
+        });
         self.each("pescrondilu_matrix_f32", Calls::matrix_f32);
         self.each("pescrondilu_matrix_q15", Calls::matrix_q15);
     }
@@ -824,7 +839,9 @@ fn the_calls_cover_the_library() {
     };
     for name in declared.keys() {
         let expected: &[u32] = match name.as_str() {
-            "pescrondilu_q15_block" | "pescrondilu_q15_plain_block" => &[0, 100, 109, 110, 111],
+            "pescrondilu_q15_block"
+            | "pescrondilu_q15_plain_block"
+            | "pescrondilu_q15_merged_block" => &[0, 100, 109, 110, 111],
             "pescrondilu_matrix_f32" | "pescrondilu_matrix_q15" => &[0, 110, 111],
             _ if name.ends_with("_block") => &[0, 109, 110, 111],
             "pescrondilu_encode_set_pilot" | "pescrondilu_encode_rds_set_pilot" => &[0, 114],
