@@ -2,8 +2,8 @@
 
 mod common;
 
-use common::{Format, RATE, decoder, pilot};
-use pescrondilu::kernels::stereo::{DecoderRecord, StereoPll, StereoPllState};
+use common::{Format, RATE, Random, all_bits, any, audio, decoder, one_nan, pilot, record_one_nan};
+use pescrondilu::kernels::stereo::{DecoderRecord, StereoPll, StereoPllState, matrix};
 use pescrondilu::{C32, Proved, Q15, Rate, RealSample};
 
 /// Runs a block of the given pilot; the multiplex signal is a constant.
@@ -246,4 +246,114 @@ fn read_outs() {
     assert_eq!(st.integrator_limit(), record.imax as f64 / 2.0_f64.powi(64));
     let st = decoder::<f32>();
     assert_eq!(st.integrator_limit(), f64::from(st.record().imax));
+}
+
+fn numbers<T: Format>(samples: &[T]) -> Vec<u64> {
+    samples.iter().map(|x| one_nan(*x)).collect()
+}
+
+/// One merged block beside a block and the matrix of what it left. Outputs of `n` samples.
+fn merged_block<T: Format>(state: &mut StereoPllState<T>, mpx: &[T], pilot: &[T], n: usize) {
+    let mut merged = *state;
+    let [mut sum, mut difference, mut left, mut right] = [(); 4].map(|()| vec![T::LEFT; n]);
+    let said = state.process(mpx, pilot, &mut sum, &mut difference);
+    let answer = merged.process_merged(mpx, pilot, &mut left, &mut right);
+    assert_eq!(answer, said);
+    assert_eq!(record_one_nan(&merged), record_one_nan(state));
+    let (mut want_left, mut want_right) = (sum.clone(), difference.clone());
+    if said.is_ok() {
+        let answer = matrix(&sum, &difference, &mut want_left, &mut want_right);
+        assert_eq!(answer, Ok(()));
+    }
+    assert_eq!(numbers(&left), numbers(&want_left));
+    assert_eq!(numbers(&right), numbers(&want_right));
+}
+
+/// Blocks in and out of lock, of any bits, with a NaN in the pilot, with wrong lengths; enable,
+/// disable and reset between them. How many blocks end in stereo, and how many in mono.
+fn merged_session<T: Format>(seed: u64) -> (usize, usize) {
+    let mut random = Random(seed);
+    let mut below = |n: usize| (random.word() % n as u64) as usize;
+    let mut samples = Random(seed + 100);
+    let mut state = decoder::<T>();
+    let (mut from, mut stereo, mut mono) = (0, 0, 0);
+    for call in 0..200 {
+        let n = match call % 20 {
+            0 => 20_000,
+            _ => [0, 1, 2, 63, 64, 65, 300, 4096][below(8)],
+        };
+        let mut mpx = audio(&mut samples, n);
+        let mut pilots = pilot(from, n, 0.1);
+        let mut outputs = n;
+        match below(8) {
+            0 => pilots = any(&mut samples, n),
+            1 => mpx = any(&mut samples, n),
+            2 if n > 0 => pilots[n / 2] = T::from_f64_round(f64::NAN),
+            3 => pilots.push(T::ZERO),
+            4 => outputs += 1,
+            _ => (),
+        }
+        merged_block(&mut state, &mpx, &pilots, outputs);
+        from += n;
+        if state.is_stereo() {
+            stereo += 1;
+        } else {
+            mono += 1;
+        }
+        match below(8) {
+            0 => state.set_enabled(false),
+            1..3 => state.set_enabled(true),
+            3 => state.reset(),
+            _ => (),
+        }
+    }
+    (stereo, mono)
+}
+
+#[test]
+fn merged_is_the_block_and_then_the_matrix() {
+    for seed in 1..5 {
+        for (stereo, mono) in [merged_session::<f32>(seed), merged_session::<Q15>(seed)] {
+            assert!(stereo > 20 && mono > 20, "{stereo} {mono}");
+        }
+    }
+}
+
+/// The difference that is not heard is +0, and -0 plus it is +0.
+#[test]
+fn merged_minus_nought() {
+    let fresh = decoder::<f32>();
+    let mut disabled = decoder::<f32>();
+    run(&mut disabled, &pilot(0, SECOND, 0.1));
+    disabled.set_enabled(false);
+    assert!(disabled.is_stereo());
+    for mut st in [fresh, disabled] {
+        let (mut left, mut right) = ([9.0; 3], [9.0; 3]);
+        st.process_merged(&[-0.0, 0.0, 0.5], &[0.0; 3], &mut left, &mut right)
+            .expect("equal lengths");
+        assert_eq!(all_bits(&left), all_bits(&[0.0, 0.0, 0.5]));
+        assert_eq!(all_bits(&right), all_bits(&[-0.0, 0.0, 0.5]));
+    }
+}
+
+/// A full-scale multiplex reaches the limit of Q15 before any low-pass; at a quarter it does not.
+#[test]
+fn merged_q15_wants_headroom() {
+    let mut locked = decoder::<Q15>();
+    run(&mut locked, &pilot(0, SECOND, 0.1));
+    assert!(locked.is_stereo());
+    let pilots = pilot(SECOND, 1000, 0.1);
+    let largest = |mpx: Q15| {
+        let mut st = locked;
+        let (mut left, mut right) = ([Q15(0); 1000], [Q15(0); 1000]);
+        st.process_merged(&[mpx; 1000], &pilots, &mut left, &mut right)
+            .expect("equal lengths");
+        let sizes = left.iter().chain(&right).map(|x| i32::from(x.0).abs());
+        sizes.max().expect("there are samples")
+    };
+    assert_eq!(largest(Q15::MAX), 32_767);
+    assert_eq!(largest(Q15::MIN), 32_768);
+    for mpx in [Q15(8192), Q15(-8192)] {
+        assert!((24_400..=24_578).contains(&largest(mpx)), "{mpx:?}");
+    }
 }

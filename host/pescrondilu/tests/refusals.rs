@@ -142,7 +142,7 @@ fn numbers_as_errors_and_in_words() {
     assert!(matches!(Error::from(cause(19)), Error::Internal(_)));
 }
 
-/// Lengths of table, mpx, pilot, sum, difference.
+/// Lengths of table, mpx, pilot, and of sum and difference or left and right.
 type Lengths = [usize; 5];
 
 fn slices<T: Format>(n: Lengths) -> (Vec<T>, Vec<T>, Vec<T>, [Vec<T>; 2]) {
@@ -158,17 +158,19 @@ fn slices<T: Format>(n: Lengths) -> (Vec<T>, Vec<T>, Vec<T>, [Vec<T>; 2]) {
     )
 }
 
-/// Both of the core's blocks and, with a good table, the call with the crate's own.
+/// The core's three blocks and, with a good table, the two calls with the crate's own.
 fn block_refused<T: Format>(state: &StereoPllState<T>, n: Lengths, want: Refusal) {
     type Call<T> = fn(&mut StereoPllState<T>, &[T], &[T], &[T], &mut [Vec<T>; 2]) -> Answer;
     type Answer = Result<(), Refusal>;
-    let calls: [Call<T>; 3] = [
+    let calls: [Call<T>; 5] = [
         |st, t, m, p, [s, d]| st.process_with(t, m, p, s, d),
         |st, t, m, p, [s, d]| st.process_plain(t, m, p, s, d),
+        |st, t, m, p, [l, r]| st.process_merged_with(t, m, p, l, r),
         |st, _, m, p, [s, d]| st.process(m, p, s, d),
+        |st, _, m, p, [l, r]| st.process_merged(m, p, l, r),
     ];
     let own_table = n[0] == tables::LENGTH;
-    for call in &calls[..if own_table { 3 } else { 2 }] {
+    for call in &calls[..if own_table { 5 } else { 3 }] {
         let mut st = *state;
         let (table, mpx, pilot, mut outputs) = slices::<T>(n);
         let left = outputs.clone();
@@ -245,6 +247,7 @@ fn no_samples_are_accepted() {
         let state = worked::<T>();
         let mut st = state;
         assert_eq!(st.process(&[], &[], &mut [], &mut []), Ok(()));
+        assert_eq!(st.process_merged(&[], &[], &mut [], &mut []), Ok(()));
         assert_eq!(Proved.stereo_pll(&mut st, &[], &[], &mut []), Ok(()));
         assert_eq!(record_bits(&st), record_bits(&state));
     }
@@ -342,6 +345,9 @@ fn a_refusal_leaves_every_word_of_a_record() {
     let mut st = StereoPllState::<f32>::from_record(record);
     assert!(st.is_stereo() && st.is_enabled());
     assert!(st.process(&[0.0], &[], &mut [0.0], &mut [0.0]).is_err());
+    assert_eq!(st.record(), record);
+    let answer = st.process_merged(&[0.0], &[], &mut [0.0], &mut [0.0]);
+    assert!(answer.is_err());
     assert_eq!(st.record(), record);
 }
 

@@ -1,7 +1,8 @@
 //! FM stereo: the pilot loop, the matrix, the multiplex encoders, the on-air verdict.
 //!
 //! The states have calls over slices: `process` with the crate's table, `process_with` with a lent
-//! one. They copy nothing and give a [`Refusal`](crate::Refusal). sdrk's traits over slices of
+//! one; the pilot loop also `process_merged`, which gives left and right at once. They copy nothing
+//! and give a [`Refusal`](crate::Refusal). sdrk's traits over slices of
 //! pairs stand beside them for [`Proved`](crate::Proved); these copy through a small scratch and
 //! give an [`Error`](crate::Error).
 

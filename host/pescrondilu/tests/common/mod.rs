@@ -98,6 +98,28 @@ pub fn record_bits<T: Format>(state: &StereoPllState<T>) -> [u64; 12] {
     ]
 }
 
+/// The bits of a sample, any NaN being one NaN: its bits are left open.
+pub fn one_nan<T: Format>(x: T) -> u64 {
+    if x.to_f64().is_nan() {
+        u64::MAX
+    } else {
+        x.bits()
+    }
+}
+
+/// A record, field by field, any NaN being one NaN.
+pub fn record_one_nan<T: Format>(state: &StereoPllState<T>) -> [u64; 12] {
+    let r = state.record();
+    let numbers = [r.kp, r.ki, r.imax, r.beta, r.on, r.off, r.integ, r.level];
+    let mut bits = record_bits(state);
+    for (bits, number) in bits.iter_mut().zip(numbers) {
+        if T::unscaled(number, 1.0).is_nan() {
+            *bits = u64::MAX;
+        }
+    }
+    bits
+}
+
 /// A decoder with sdrk's gains for a pilot of 0.1.
 pub fn decoder<T: RealSample>() -> StereoPllState<T> {
     let rate = pescrondilu::Rate::from_f64(RATE).expect("a good rate");

@@ -2,7 +2,7 @@
 
 use core::f64::consts::PI;
 
-use pescrondilu_sys::decoder::{self as sys, Decoder, Readout, Sample as _, Way};
+use pescrondilu_sys::decoder::{self as sys, Decoder, Readout, Reply, Sample as _, Way};
 
 use super::pairs::{LONG, SHORT, join, same_input, same_output};
 use crate::Proved;
@@ -329,6 +329,77 @@ impl<T: RealSample> StereoPllState<T> {
         self.block(Way::Plain, table, mpx, pilot, sum, difference)
     }
 
+    /// Left and right from one call, with the crate's table: the [`matrix`](super::matrix()) of
+    /// what [`StereoPllState::process`] gives, which is `sum` plus and minus twice `difference`,
+    /// and the same state after it. The receiver's low-pass comes after. In mono the difference is
+    /// +0, so that an f32 `mpx` of -0 gives left +0 and right -0.
+    ///
+    /// In Q15 left and right are limited before that low-pass. They can be three times as large as
+    /// `mpx`, so hand it in with headroom, say at a quarter, the pilot staying as it is; or filter
+    /// sum and difference and then call the matrix.
+    ///
+    /// # Errors
+    /// The causes 10 and 11, for Q15 also 0 first; state and outputs stay.
+    ///
+    /// ```
+    /// use pescrondilu::kernels::stereo::StereoPllState;
+    ///
+    /// let mut st = StereoPllState::<f32>::with_beta(19_000.0, 20.0, 0.1, 0.5, 192_000.0)?;
+    /// let (mut left, mut right) = ([9.0; 2], [9.0; 2]);
+    /// st.process_merged(&[0.5, 0.25], &[0.0; 2], &mut left, &mut right)?;
+    /// // No pilot: mono, and both sides are the multiplex.
+    /// assert_eq!((left, right), ([0.5, 0.25], [0.5, 0.25]));
+    ///
+    /// let before = st;
+    /// let refusal = st.process_merged(&[0.1; 2], &[0.0; 3], &mut left, &mut right).unwrap_err();
+    /// assert_eq!((refusal.number, refusal.expected, refusal.got), (10, 2, 3));
+    /// assert_eq!((st, left, right), (before, [0.5, 0.25], [0.5, 0.25]));
+    /// # Ok::<(), pescrondilu::Refusal>(())
+    /// ```
+    pub fn process_merged(
+        &mut self,
+        mpx: &[T],
+        pilot: &[T],
+        left: &mut [T],
+        right: &mut [T],
+    ) -> core::result::Result<(), Refusal> {
+        self.process_merged_with(T::table(), mpx, pilot, left, right)
+    }
+
+    /// As [`StereoPllState::process_merged`], with a table of yours: 4097 entries of any bits.
+    ///
+    /// # Errors
+    /// The causes 9, 10 and 11, for Q15 also 0 first; state and outputs stay.
+    ///
+    /// ```
+    /// use pescrondilu::{Q15, kernels::stereo::StereoPllState, tables};
+    ///
+    /// let mut st = StereoPllState::<Q15>::with_beta(19_000.0, 20.0, 0.1, 0.5, 192_000.0)?;
+    /// let (mut left, mut right) = ([Q15(0)], [Q15(0)]);
+    /// let table = tables::cos::<Q15>();
+    /// st.process_merged_with(table, &[Q15(3)], &[Q15(2)], &mut left, &mut right)?;
+    /// assert_eq!((left, right), ([Q15(3)], [Q15(3)]));
+    /// # Ok::<(), pescrondilu::Refusal>(())
+    /// ```
+    pub fn process_merged_with(
+        &mut self,
+        table: &[T],
+        mpx: &[T],
+        pilot: &[T],
+        left: &mut [T],
+        right: &mut [T],
+    ) -> core::result::Result<(), Refusal> {
+        let reply = sys::merged_block(
+            self.record,
+            T::raw(table),
+            T::raw(mpx),
+            T::raw(pilot),
+            T::raw_mut(left),
+            T::raw_mut(right),
+        );
+        self.take(reply)
+    }
+
     #[inline]
     fn block(
         &mut self,
@@ -348,6 +419,12 @@ impl<T: RealSample> StereoPllState<T> {
             T::raw_mut(sum),
             T::raw_mut(difference),
         );
+        self.take(reply)
+    }
+
+    /// The next record, unless the block was turned back.
+    #[inline]
+    fn take(&mut self, reply: Reply<T::Value>) -> core::result::Result<(), Refusal> {
         accepted(reply.answer)?;
         self.record = reply.decoder;
         Ok(())
