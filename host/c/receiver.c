@@ -21,18 +21,18 @@
 #define MEASURED 19200 /* the last 100 ms: whole periods of both tones */
 #define LEFT_HZ 1000.0
 #define RIGHT_HZ 400.0
-#define TONE 0.3 /* so that sum and twice the difference stay in Q15 with no filter before */
+#define TONE 0.3 /* so that left and right, three times the multiplex at most, stay in Q15 */
 #define MAIN 0.8f
 #define TURN 6.283185307179586
 
 /* Large, so not on the stack. */
 static float table[PESCRONDILU_TABLE_LENGTH];
 static float left_in[TOTAL], right_in[TOTAL], mpx[TOTAL], pilot[TOTAL];
-static float sum[TOTAL], difference[TOTAL], left[TOTAL], right[TOTAL];
+static float left[TOTAL], right[TOTAL];
 
 static int16_t table_q15[PESCRONDILU_TABLE_LENGTH];
 static int16_t mpx_q15[TOTAL], pilot_q15[TOTAL];
-static int16_t sum_q15[TOTAL], difference_q15[TOTAL], left_q15[TOTAL], right_q15[TOTAL];
+static int16_t left_q15[TOTAL], right_q15[TOTAL];
 
 static int wrong = 0;
 
@@ -45,7 +45,7 @@ static void expect(int as_expected, const char *what)
 }
 
 /*
- * The amplitude of a tone in the last MEASURED samples. A receiver has a low-pass here, against
+ * The amplitude of a tone in the last MEASURED samples. A receiver has a low-pass before, against
  * what is left of the pilot and the subcarriers. The library has no filters, and this measure is
  * blind to all but the tone.
  */
@@ -136,9 +136,9 @@ static pescrondilu_f32 receive_f32(void)
     /* The decoder is a plain struct. Each block is handed it and gives the next one back. */
     pescrondilu_f32 d = made.decoder;
     for (int at = 0; at < TOTAL; at += BLOCK) {
-        pescrondilu_f32_reply reply = pescrondilu_f32_block(
-            d, table, PESCRONDILU_TABLE_LENGTH, mpx + at, BLOCK, pilot + at, BLOCK, sum + at, BLOCK,
-            difference + at, BLOCK);
+        pescrondilu_f32_reply reply = pescrondilu_f32_merged_block(
+            d, table, PESCRONDILU_TABLE_LENGTH, mpx + at, BLOCK, pilot + at, BLOCK, left + at,
+            BLOCK, right + at, BLOCK);
         expect(reply.answer.code == 0, "the f32 block is accepted");
         d = reply.decoder;
         if (at == 0 || at == 2 * BLOCK)
@@ -150,10 +150,6 @@ static pescrondilu_f32 receive_f32(void)
     printf("f32 at the end:   level %.4f, lamp %s\n", r.lock_level, r.stereo ? "on" : "off");
     expect(fabs(r.lock_level - PILOT / 2) < 0.001, "the level settles at half the amplitude");
     expect(r.stereo == 1, "the f32 lamp is on");
-
-    pescrondilu_answer a = pescrondilu_matrix_f32(sum, TOTAL, difference, TOTAL, left, TOTAL, right,
-                                                  TOTAL);
-    expect(a.code == 0, "the f32 matrix is accepted");
     separated("f32", tone(left, LEFT_HZ), tone(right, LEFT_HZ), tone(right, RIGHT_HZ),
               tone(left, RIGHT_HZ));
     return d;
@@ -167,9 +163,9 @@ static void receive_q15(void)
 
     pescrondilu_q15 d = made.decoder;
     for (int at = 0; at < TOTAL; at += BLOCK) {
-        pescrondilu_q15_reply reply = pescrondilu_q15_block(
+        pescrondilu_q15_reply reply = pescrondilu_q15_merged_block(
             d, table_q15, PESCRONDILU_TABLE_LENGTH, mpx_q15 + at, BLOCK, pilot_q15 + at, BLOCK,
-            sum_q15 + at, BLOCK, difference_q15 + at, BLOCK);
+            left_q15 + at, BLOCK, right_q15 + at, BLOCK);
         expect(reply.answer.code == 0, "the Q15 block is accepted");
         d = reply.decoder;
     }
@@ -178,10 +174,6 @@ static void receive_q15(void)
     printf("Q15 at the end:   level %.4f, lamp %s\n", r.lock_level, r.stereo ? "on" : "off");
     expect(fabs(r.lock_level - PILOT / 2) < 0.001, "the level settles at half the amplitude");
     expect(r.stereo == 1, "the Q15 lamp is on");
-
-    pescrondilu_answer a = pescrondilu_matrix_q15(sum_q15, TOTAL, difference_q15, TOTAL, left_q15,
-                                                  TOTAL, right_q15, TOTAL);
-    expect(a.code == 0, "the Q15 matrix is accepted");
     separated("Q15", tone_q15(left_q15, LEFT_HZ), tone_q15(right_q15, LEFT_HZ),
               tone_q15(right_q15, RIGHT_HZ), tone_q15(left_q15, RIGHT_HZ));
 }
@@ -189,13 +181,13 @@ static void receive_q15(void)
 /* A block with a pilot one sample short is refused, and nothing changes. */
 static void refuse(pescrondilu_f32 d)
 {
-    static float sum_before[TOTAL], difference_before[TOTAL];
-    memcpy(sum_before, sum, sizeof sum);
-    memcpy(difference_before, difference, sizeof difference);
+    static float left_before[TOTAL], right_before[TOTAL];
+    memcpy(left_before, left, sizeof left);
+    memcpy(right_before, right, sizeof right);
 
     pescrondilu_f32_reply reply =
-        pescrondilu_f32_block(d, table, PESCRONDILU_TABLE_LENGTH, mpx, BLOCK, pilot, BLOCK - 1, sum,
-                              BLOCK, difference, BLOCK);
+        pescrondilu_f32_merged_block(d, table, PESCRONDILU_TABLE_LENGTH, mpx, BLOCK, pilot,
+                                     BLOCK - 1, left, BLOCK, right, BLOCK);
     printf("pilot one short: code %u, expected %zu, got %zu\n", reply.answer.code,
            reply.answer.expected, reply.answer.got);
     expect(reply.answer.code == PESCRONDILU_REFUSED + 10, "the code is 110");
@@ -203,8 +195,8 @@ static void refuse(pescrondilu_f32 d)
 
     /* All fields of the record are 4 bytes long, so it has no padding that could differ. */
     int kept = memcmp(&reply.decoder, &d, sizeof d) == 0 &&
-               memcmp(sum, sum_before, sizeof sum) == 0 &&
-               memcmp(difference, difference_before, sizeof difference) == 0;
+               memcmp(left, left_before, sizeof left) == 0 &&
+               memcmp(right, right_before, sizeof right) == 0;
     printf("record and outputs: %s\n", kept ? "as they were" : "changed");
     expect(kept, "a refused block leaves record and outputs as they were");
 
@@ -216,7 +208,10 @@ static void refuse(pescrondilu_f32 d)
     expect(memcmp(&none.decoder, &zeros, sizeof zeros) == 0, "the decoder is all zeros");
 }
 
-/* A switch is on at anything but 0, and comes back as 0 or 1. */
+/*
+ * A switch is on at anything but 0, and comes back as 0 or 1. Here sum and difference are taken, as
+ * by a receiver that filters them before the matrix.
+ */
 static void use_switches(pescrondilu_f32 d)
 {
     static float as_1[BLOCK], as_2[BLOCK], off[BLOCK], same[BLOCK];

@@ -13,7 +13,8 @@ use sdrk_core::kernels::stereo::{
 use sdrk_core::timing::Rate as TheirRate;
 
 use crate::format::{
-    Bits, Format, Random, pair_bits, pairs, slice_bits, their_pair_bits, their_pairs, theirs,
+    Bits, Format, Random, TheirPair, pair_bits, pairs, slice_bits, their_pair_bits, their_pairs,
+    theirs,
 };
 
 const SESSIONS: usize = 300;
@@ -69,11 +70,12 @@ macro_rules! readouts {
     };
 }
 
-/// Four decoders that get the same calls.
+/// Five decoders that get the same calls.
 struct Decoders<F: Format> {
     fallback: original::StereoPllState<F::Theirs>,
     backend: original::StereoPllState<F::Theirs>,
     slices: ours::StereoPllState<F>,
+    merged: ours::StereoPllState<F>,
     pairs: ours::StereoPllState<F>,
 }
 
@@ -98,6 +100,7 @@ impl<F: Format> Decoders<F> {
             fallback,
             backend: fallback,
             slices,
+            merged: slices,
             pairs: slices,
         })
     }
@@ -106,6 +109,7 @@ impl<F: Format> Decoders<F> {
         let want = readouts!(self.fallback);
         assert_eq!(readouts!(self.backend), want);
         assert_eq!(readouts!(self.slices), want);
+        assert_eq!(readouts!(self.merged), want);
         assert_eq!(readouts!(self.pairs), want);
     }
 
@@ -115,12 +119,14 @@ impl<F: Format> Decoders<F> {
                 self.fallback.reset();
                 self.backend.reset();
                 self.slices.reset();
+                self.merged.reset();
                 self.pairs.reset();
             }
             k @ 1..4 => {
                 self.fallback.set_enabled(k != 1);
                 self.backend.set_enabled(k != 1);
                 self.slices.set_enabled(k != 1);
+                self.merged.set_enabled(k != 1);
                 self.pairs.set_enabled(k != 1);
             }
             _ => (),
@@ -148,6 +154,22 @@ impl<F: Format> Decoders<F> {
         let said = Proved.stereo_pll(&mut self.pairs, mpx, pilot, &mut output);
         assert_eq!(answer(said), want);
         assert_eq!(pair_bits::<F>(&output), bits);
+        self.merged_block(mpx, pilot, &theirs_out, want);
+    }
+
+    /// Left and right from one call beside the original's matrix of what its block answered and left.
+    fn merged_block(&mut self, mpx: &[F], pilot: &[F], decoded: &[TheirPair<F>], want: Answer) {
+        let nine = vec![F::from_f64_round(0.75); decoded.len()];
+        let (mut left, mut right) = (nine.clone(), nine.clone());
+        let mut sides = their_pairs(&nine, &nine);
+        if want.is_none() {
+            assert_eq!(F::FALLBACK.stereo_matrix(decoded, &mut sides), Ok(()));
+        }
+        let said = self
+            .merged
+            .process_merged(mpx, pilot, &mut left, &mut right);
+        assert_eq!(answer(said.map_err(Error::from)), want);
+        assert_eq!(slice_bits(&left, &right), their_pair_bits::<F>(&sides));
     }
 }
 

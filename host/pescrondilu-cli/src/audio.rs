@@ -1,13 +1,9 @@
-//! From sum and difference at the multiplex's rate to left and right at the audio's: the low-pass,
-//! the proved matrix, de-emphasis.
-
-use pescrondilu::Refusal;
-use pescrondilu::kernels::stereo::matrix;
+//! From left and right at the multiplex's rate to the audio's: the low-pass, de-emphasis.
 
 use crate::filter::design::low_pass;
 use crate::filter::emphasis::Emphasis;
 use crate::filter::fir::Fir;
-use crate::format::{Format, fill, fill_f32};
+use crate::format::{Format, fill_f32};
 
 /// Audio passes whole up to here.
 const AUDIO_HZ: f64 = 15_000.0;
@@ -19,13 +15,11 @@ const STOP_HZ: f64 = 17_800.0;
 /// Left and right.
 pub type Stereo = [Vec<f32>; 2];
 
-pub struct AudioPath<T> {
+pub struct AudioPath {
     low: [Fir; 2],
     emphasis: Option<[Emphasis; 2]>,
     decimation: usize,
-    /// Sum and difference, then left and right, at the audio's rate. Each call uses them again.
-    narrow: [Vec<T>; 2],
-    sides: [Vec<T>; 2],
+    /// One side before and after the low-pass. Each call uses them again.
     before: Vec<f32>,
     after: Vec<f32>,
 }
@@ -47,9 +41,9 @@ pub fn decimation(rate: f64) -> usize {
     step as usize
 }
 
-impl<T: Format> AudioPath<T> {
+impl AudioPath {
     /// With this time constant of de-emphasis in seconds.
-    pub fn new(rate: f64, deemphasis: Option<f64>) -> AudioPath<T> {
+    pub fn new(rate: f64, deemphasis: Option<f64>) -> AudioPath {
         let decimation = decimation(rate);
         let taps = low_pass(AUDIO_HZ, STOP_HZ, rate);
         let emphasis = |seconds| Emphasis::de(seconds, rate / decimation as f64);
@@ -57,8 +51,6 @@ impl<T: Format> AudioPath<T> {
             low: [0, 1].map(|_| Fir::new(&taps, decimation)),
             emphasis: deemphasis.map(|seconds| [emphasis(seconds); 2]),
             decimation,
-            narrow: Default::default(),
-            sides: Default::default(),
             before: Vec::new(),
             after: Vec::new(),
         }
@@ -68,30 +60,22 @@ impl<T: Format> AudioPath<T> {
         self.decimation
     }
 
-    /// Appends left and right; `last` also what the low-pass still holds.
-    pub fn run(&mut self, wide: [&[T]; 2], last: bool, audio: &mut Stereo) -> Result<(), Refusal> {
-        for ((low, wide), narrow) in self.low.iter_mut().zip(wide).zip(&mut self.narrow) {
+    /// Takes left and right as the core gives them and appends the audio; `last` also what the
+    /// low-pass still holds.
+    pub fn run<T: Format>(&mut self, wide: [&[T]; 2], last: bool, audio: &mut Stereo) {
+        for (at, wide) in wide.into_iter().enumerate() {
             fill_f32(&mut self.before, wide);
             self.after.clear();
-            low.run(&self.before, &mut self.after);
+            self.low[at].run(&self.before, &mut self.after);
             if last {
-                low.finish(&mut self.after);
+                self.low[at].finish(&mut self.after);
             }
-            fill(narrow, &self.after);
-        }
-        let [sum, difference] = &self.narrow;
-        let [left, right] = &mut self.sides;
-        left.resize(sum.len(), T::ZERO);
-        right.resize(sum.len(), T::ZERO);
-        matrix(sum, difference, left, right)?;
-        for (at, side) in self.sides.iter().enumerate() {
-            fill_f32(&mut self.after, side);
+            self.after.iter_mut().for_each(|x| *x *= T::HEADROOM);
             if let Some(emphasis) = &mut self.emphasis {
                 emphasis[at].run(&mut self.after);
             }
             audio[at].extend_from_slice(&self.after);
         }
-        Ok(())
     }
 }
 
@@ -120,21 +104,21 @@ mod tests {
         }
     }
 
-    fn steady<T: Format>(sum: f32, difference: f32) -> [f32; 2] {
-        let mut path = AudioPath::<T>::new(192_000.0, Some(50e-6));
+    fn steady<T: Format>(left: f32, right: f32) -> [f32; 2] {
+        let mut path = AudioPath::new(192_000.0, Some(50e-6));
         let mut audio = Stereo::default();
-        let (sum, difference) = ([T::from_f32(sum); 8_000], [T::from_f32(difference); 8_000]);
-        path.run([&sum, &difference], true, &mut audio).unwrap();
+        let wide = [left, right].map(|x| [T::multiplex(x); 8_000]);
+        path.run([&wide[0], &wide[1]], true, &mut audio);
         assert_eq!(audio[0].len(), 2_000);
         [audio[0][1_000], audio[1][1_000]]
     }
 
     #[test]
-    fn the_matrix_makes_the_sides_in_both_formats() {
+    fn both_sides_pass_at_their_level_in_both_formats() {
         let near = |sides: [f32; 2], error: f32| {
             (sides[0] - 0.75).abs() < error && (sides[1] - 0.25).abs() < error
         };
-        assert!(near(steady::<f32>(0.5, 0.125), 1e-5));
-        assert!(near(steady::<Q15>(0.5, 0.125), 1e-4));
+        assert!(near(steady::<f32>(0.75, 0.25), 1e-5));
+        assert!(near(steady::<Q15>(0.75, 0.25), 1e-4));
     }
 }

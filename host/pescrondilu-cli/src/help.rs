@@ -48,7 +48,8 @@ Receiver
 The audio's rate is the capture's divided by a whole number: 48 or 44.1 kHz where that can be, else
 near 48 kHz. All times are those of the capture: the filters add no delay. A NaN or infinity in the
 capture is passed on and is gone after the filters' length; with de-emphasis the audio stays where
-it was until then.
+it was until then. The integer core takes a NaN for 0, limits the capture to full deviation, and
+works at a quarter of it, so that left and right are not limited before their low-pass.
 
 Examples
   pescrondilu decode capture.wav -o audio.wav --log lamp.csv --plot lamp.svg

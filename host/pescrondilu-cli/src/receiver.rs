@@ -1,4 +1,5 @@
-//! A stereo receiver from the multiplex on: the pilot's band-pass, the proved loop, then the audio.
+//! A stereo receiver from the multiplex on: the pilot's band-pass, the proved loop with its matrix,
+//! then the audio.
 
 use pescrondilu::Rate;
 use pescrondilu::kernels::stereo::StereoPllState;
@@ -7,7 +8,7 @@ use crate::audio::{AudioPath, Stereo};
 use crate::fault::{Fault, Outcome};
 use crate::filter::design::band_pass;
 use crate::filter::fir::Fir;
-use crate::format::{Format, fill, fill_f32};
+use crate::format::{Format, fill, fill_f32, fill_multiplex};
 
 pub const PILOT_HZ: f64 = 19_000.0;
 /// The band-pass stops from this far to either side: programme begins 4 kHz away.
@@ -51,7 +52,7 @@ pub struct Receiver<T: Format> {
     band: Fir,
     /// The multiplex that waits for its pilot.
     waiting: Vec<f32>,
-    audio: AudioPath<T>,
+    audio: AudioPath,
     /// Samples that went through the loop. Blocks end at its multiples of `block`, however the
     /// capture comes in pieces.
     done: u64,
@@ -65,8 +66,8 @@ struct Work<T> {
     pilot: Vec<f32>,
     mpx: Vec<T>,
     pilot_t: Vec<T>,
-    sum: Vec<T>,
-    difference: Vec<T>,
+    left: Vec<T>,
+    right: Vec<T>,
 }
 
 impl<T: Format> Receiver<T> {
@@ -120,7 +121,8 @@ impl<T: Format> Receiver<T> {
         self.work.pilot.clear();
         self.band.run(&self.work.input, &mut self.work.pilot);
         self.decode(see)?;
-        self.sides(false, audio)
+        self.sides(false, audio);
+        Ok(())
     }
 
     /// The last pieces, which the filters still hold.
@@ -132,37 +134,38 @@ impl<T: Format> Receiver<T> {
         self.work.pilot.clear();
         self.band.finish(&mut self.work.pilot);
         self.decode(see)?;
-        self.sides(true, audio)
+        self.sides(true, audio);
+        Ok(())
     }
 
-    /// The band-pass sees what the core sees: in Q15 the rounded capture.
+    /// The band-pass sees the samples of the format: in Q15 the rounded capture.
     fn quantize(&mut self, mpx: &[f32]) {
         fill(&mut self.work.mpx, mpx);
         fill_f32(&mut self.work.input, &self.work.mpx);
     }
 
-    /// The proved loop, over as much of the multiplex as has its pilot.
+    /// The proved loop and matrix, over as much of the multiplex as has its pilot.
     fn decode(&mut self, see: &mut dyn FnMut(Sight) -> Outcome<()>) -> Outcome<()> {
         let n = self.work.pilot.len();
         let Work {
             pilot,
             mpx,
             pilot_t,
-            sum,
-            difference,
+            left,
+            right,
             ..
         } = &mut self.work;
-        fill(mpx, &self.waiting[..n]);
+        fill_multiplex(mpx, &self.waiting[..n]);
         fill(pilot_t, pilot);
-        sum.resize(n, T::ZERO);
-        difference.resize(n, T::ZERO);
+        left.resize(n, T::ZERO);
+        right.resize(n, T::ZERO);
         let mut from = 0;
         while from < n {
             let block = self.settings.block;
             let to = (from + block - (self.done % block as u64) as usize).min(n);
-            let (s, d) = (&mut sum[from..to], &mut difference[from..to]);
+            let (l, r) = (&mut left[from..to], &mut right[from..to]);
             self.pll
-                .process(&mpx[from..to], &pilot_t[from..to], s, d)
+                .process_merged(&mpx[from..to], &pilot_t[from..to], l, r)
                 .map_err(core_fault)?;
             see(Sight {
                 samples: to - from,
@@ -179,9 +182,9 @@ impl<T: Format> Receiver<T> {
         Ok(())
     }
 
-    fn sides(&mut self, last: bool, audio: &mut Stereo) -> Outcome<()> {
-        let wide = [&self.work.sum[..], &self.work.difference[..]];
-        self.audio.run(wide, last, audio).map_err(core_fault)
+    fn sides(&mut self, last: bool, audio: &mut Stereo) {
+        let wide = [&self.work.left[..], &self.work.right[..]];
+        self.audio.run(wide, last, audio);
     }
 }
 

@@ -86,6 +86,27 @@ fn q15_is_beside_f32() {
     }
 }
 
+/// Before the low-pass left goes up to three times this multiplex, which is 0.99 at its highest.
+#[test]
+fn a_full_capture_is_not_limited_in_q15() {
+    let folder = Folder::new("full");
+    let mpx = Multiplex {
+        left: 1.0,
+        seconds: 0.5,
+        ..Multiplex::default()
+    }
+    .make();
+    let (_, float) = decode(&folder, &mpx, &["--deemphasis", "none"]);
+    let options = ["--format", "q15", "--deemphasis", "none"];
+    let (_, integer) = decode(&folder, &mpx, &options);
+    let sides = [(&float.left, &integer.left), (&float.right, &integer.right)];
+    for (one, other) in sides {
+        let pairs = one.iter().zip(other).skip(4_800);
+        let worst = pairs.map(|(a, b)| (a - b).abs()).fold(0.0, f32::max);
+        assert!(worst < 0.001, "{worst}");
+    }
+}
+
 #[test]
 fn it_locks_soon_and_audio_stands_in_its_place() {
     let folder = Folder::new("soon");
