@@ -1,11 +1,11 @@
 //! How long our decoder's blocks take beside the original's: the fast one beside `Fallback`, the
-//! plain one beside `Reference`.
+//! plain one beside `Reference`, the merged one beside `Fallback`'s block and then its matrix.
 
 use std::hint::black_box;
 
 use pescrondilu_sys::decoder::{self, Decoder, Sample, Way};
 use sdrk_core::error::Error;
-use sdrk_core::kernels::stereo::{StereoPll, StereoPllState, hand};
+use sdrk_core::kernels::stereo::{StereoMatrix, StereoPll, StereoPllState, hand};
 use sdrk_core::probe::{self, Fields};
 use sdrk_core::tables::{COS_F32, COS_Q15};
 use sdrk_core::timing::Rate;
@@ -33,6 +33,7 @@ trait Timed: RealSample {
         pilot: &[Self],
         output: &mut [Self::Complex],
     ) -> Result<(), Error>;
+    fn matrix(input: &[Self::Complex], output: &mut [Self::Complex]) -> Result<(), Error>;
     fn fields(state: &StereoPllState<Self>) -> Fields<Self::Value>;
     /// The decoder with levels so low that every level is stereo.
     fn in_stereo(state: &StereoPllState<Self>) -> StereoPllState<Self>;
@@ -63,6 +64,10 @@ impl Timed for f32 {
             Way::Plain => Reference.stereo_pll(state, mpx, pilot, output),
             Way::Fast => Fallback.stereo_pll(state, mpx, pilot, output),
         }
+    }
+
+    fn matrix(input: &[C32], output: &mut [C32]) -> Result<(), Error> {
+        Fallback.stereo_matrix(input, output)
     }
 
     fn fields(state: &StereoPllState<f32>) -> Fields<f32> {
@@ -124,6 +129,10 @@ impl Timed for Q15 {
         }
     }
 
+    fn matrix(input: &[CQ15], output: &mut [CQ15]) -> Result<(), Error> {
+        Fallback.stereo_matrix(input, output)
+    }
+
     fn fields(state: &StereoPllState<Q15>) -> Fields<i64> {
         probe::fields_q15(state)
     }
@@ -174,12 +183,13 @@ impl Timed for Q15 {
 /// Six turns of it are 64 samples at the rate of 192000, so that a block fits its successor.
 const PILOT_HZ: f64 = 18000.0;
 
-fn block<F: Timed>(way: Way, pilot: Pilot, n: usize) -> f64 {
+/// The original's decoder and ours, with the same numbers.
+fn decoders<F: Timed>(pilot: Pilot) -> (StereoPllState<F>, Decoder<F::Value>) {
     let made = StereoPllState::<F>::new(PILOT_HZ, 20.0, 0.1, Rate(192000.0));
     let mut state = F::in_stereo(&made.expect("accepted"));
     state.set_enabled(pilot != Pilot::Disabled);
     let f = F::fields(&state);
-    let mut ours = Decoder {
+    let ours = Decoder {
         kp: f.kp,
         ki: f.ki,
         imax: f.imax,
@@ -193,42 +203,102 @@ fn block<F: Timed>(way: Way, pilot: Pilot, n: usize) -> f64 {
         stereo: f.stereo as u32,
         enabled: f.enabled as u32,
     };
+    (state, ours)
+}
+
+/// What both sides get: the multiplex and the pilot, ours and the original's.
+struct Inputs<F: Timed> {
+    mpx: Staggered<F::Raw>,
+    pilot: Staggered<F::Raw>,
+    their_mpx: Staggered<F>,
+    their_pilot: Staggered<F>,
+}
+
+fn inputs<F: Timed>(pilot: Pilot, step0: u32, n: usize) -> Inputs<F> {
     let at = |i: usize| match pilot {
         Pilot::OneNan if i == n / 2 => F::nan(),
-        _ => F::pilot(f.step0.wrapping_mul(i as u32)),
+        _ => F::pilot(step0.wrapping_mul(i as u32)),
     };
+    Inputs {
+        mpx: Staggered::new(0, n, |i| F::mpx(i).raw()),
+        pilot: Staggered::new(1, n, |i| at(i).raw()),
+        their_mpx: Staggered::new(4, n, F::mpx),
+        their_pilot: Staggered::new(5, n, at),
+    }
+}
+
+/// At the end the states have to be equal, and in stereo.
+fn same_state<F: Timed>(ours: &Decoder<F::Value>, state: &StereoPllState<F>) {
+    let f = F::fields(state);
+    assert_eq!((ours.step0, ours.phase), (f.step0, f.phase));
+    let switches = (f.stereo as u32, f.enabled as u32);
+    assert_eq!((ours.stereo, ours.enabled), switches);
+    assert_eq!((ours.integ, ours.level), (f.integ, f.level));
+    assert!(f.stereo, "the decision is stereo while the time is taken");
+}
+
+/// And so have the outputs.
+fn same_outputs<F: Timed>(first: &[F::Raw], second: &[F::Raw], theirs: &[F::Complex]) {
+    let ours = first.iter().zip(second).map(|(a, b)| (*a, *b));
+    assert!(ours.eq(theirs.iter().map(|c| F::parts(*c))));
+}
+
+fn block<F: Timed>(way: Way, pilot: Pilot, n: usize) -> f64 {
+    let (mut state, mut ours) = decoders::<F>(pilot);
+    let with = inputs::<F>(pilot, ours.step0, n);
     let table = black_box(F::table());
-    let mpx = Staggered::new(0, n, |i| F::mpx(i).raw());
-    let pilots = Staggered::new(1, n, |i| at(i).raw());
     let mut sum = Staggered::new(2, n, |i| F::mpx(i).raw());
     let mut difference = Staggered::new(3, n, |i| F::mpx(i).raw());
-    let their_mpx = Staggered::new(4, n, F::mpx);
-    let their_pilots = Staggered::new(5, n, at);
     let mut output = Staggered::new(6, n, |_| F::zero());
     let answer = ratio(
         n,
         || {
-            let (x, p) = (black_box(mpx.get()), black_box(pilots.get()));
+            let (x, p) = (black_box(with.mpx.get()), black_box(with.pilot.get()));
             let (s, d) = (sum.get_mut(), difference.get_mut());
             let reply = decoder::block(way, ours, table, x, p, s, d);
             ours = reply.decoder;
             assert_eq!(black_box(reply.answer), ACCEPTED);
         },
         || {
-            let (x, p) = (black_box(their_mpx.get()), black_box(their_pilots.get()));
+            let (x, p) = (with.their_mpx.get(), with.their_pilot.get());
+            let (x, p) = (black_box(x), black_box(p));
             let done = F::original(way, &mut state, x, p, output.get_mut());
             assert!(black_box(done).is_ok());
         },
     );
-    let f = F::fields(&state);
-    assert_eq!((ours.step0, ours.phase), (f.step0, f.phase));
-    let switches = (f.stereo as u32, f.enabled as u32);
-    assert_eq!((ours.stereo, ours.enabled), switches);
-    assert_eq!((ours.integ, ours.level), (f.integ, f.level));
-    assert!(f.stereo, "the decision is stereo while the time is taken");
-    let theirs = output.get().iter().map(|c| F::parts(*c));
-    let ours = sum.get().iter().zip(difference.get());
-    assert!(ours.map(|(s, d)| (*s, *d)).eq(theirs));
+    same_state(&ours, &state);
+    same_outputs::<F>(sum.get(), difference.get(), output.get());
+    answer
+}
+
+fn merged<F: Timed>(pilot: Pilot, n: usize) -> f64 {
+    let (mut state, mut ours) = decoders::<F>(pilot);
+    let with = inputs::<F>(pilot, ours.step0, n);
+    let table = black_box(F::table());
+    let mut left = Staggered::new(2, n, |i| F::mpx(i).raw());
+    let mut right = Staggered::new(3, n, |i| F::mpx(i).raw());
+    let mut decoded = Staggered::new(6, n, |_| F::zero());
+    let mut output = Staggered::new(7, n, |_| F::zero());
+    let answer = ratio(
+        n,
+        || {
+            let (x, p) = (black_box(with.mpx.get()), black_box(with.pilot.get()));
+            let (l, r) = (left.get_mut(), right.get_mut());
+            let reply = decoder::merged_block(ours, table, x, p, l, r);
+            ours = reply.decoder;
+            assert_eq!(black_box(reply.answer), ACCEPTED);
+        },
+        || {
+            let (x, p) = (with.their_mpx.get(), with.their_pilot.get());
+            let (x, p) = (black_box(x), black_box(p));
+            let done = F::original(Way::Fast, &mut state, x, p, decoded.get_mut());
+            assert!(black_box(done).is_ok());
+            let done = F::matrix(black_box(decoded.get()), output.get_mut());
+            assert!(black_box(done).is_ok());
+        },
+    );
+    same_state(&ours, &state);
+    same_outputs::<F>(left.get(), right.get(), output.get());
     answer
 }
 
@@ -238,6 +308,10 @@ fn format<F: Timed>(n: usize, name: &str, pilots: &[(Pilot, &str)]) {
             let r = block::<F>(way, *pilot, n);
             println!("{with}_{name}, {what:9} {n:5} {r:.3}");
         }
+    }
+    for (pilot, what) in pilots {
+        let r = merged::<F>(*pilot, n);
+        println!("merged_{name}, {what:9} {n:5} {r:.3}");
     }
 }
 
