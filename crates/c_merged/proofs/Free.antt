@@ -1,5 +1,5 @@
--- The merged blocks ask nothing of their caller. `F.Asked` is what a caller of F has to show, by F's `requires`.
--- Assumes nothing.
+-- The merged blocks ask nothing of their caller. `F.Asked` is what a caller of F has to show, by F's
+-- `requires`. Assumes nothing.
 use mathlib.Core.Path.{_≡_, refl}
 use Rattle.c_merged.proofs.in_f32.pescrondilu_f32_merged_block.Reads as in-f32
 use Rattle.c_merged.proofs.in_q15.pescrondilu_q15_merged_block.Reads as in-q15

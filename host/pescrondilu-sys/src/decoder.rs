@@ -1,5 +1,5 @@
-//! crates/c_decoder and crates/c_merged. A struct that both formats have is one here, over the format's number V; S is
-//! the format's sample.
+//! crates/c_decoder and crates/c_merged. A struct that both formats have is one here, over the
+//! format's number V; S is the format's sample.
 
 use crate::Code;
 
