@@ -25,7 +25,7 @@ returns c =
       lock = l .level-next .ensures ∙ rw (s .pre, i .interp-f32-pair .ensures);
       decision = b .decided .ensures ∙ rw (s .pre);
       heard = m .demodulated .ensures ∙ rw (c2 .cos-f32 .ensures, c2 .before .sine-at-twice .ensures);
-      advanced = c .advanced .ensures ∙ advanced-is f32 (pllF32 (a .d)) e (l .level-next .result) (b .decided .result) (w .within .ensures ∙ rw (g .accumulated .ensures)) (k .correction-fast .ensures) refl;
+      advanced = c .advanced .ensures ∙ advanced-is f32 (pllF32 (a .d)) e (l .level-next .result) (b .decided .result) (w .within .ensures ∙ rw (g .accumulated .ensures)) (k .correction-clean .ensures) refl;
     } in
     step-is f32 (a .table .now) (pllF32 (a .d)) (a .x) (a .p) parts
 
