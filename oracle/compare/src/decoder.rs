@@ -36,8 +36,12 @@ fn difference(expected: &Outcome, got: &Outcome) -> String {
         return format!("said {:?}, ours {:?}", expected.said, got.said);
     }
     let lists = [
-        ("sum", &expected.sum[..], &got.sum[..]),
-        ("difference", &expected.difference[..], &got.difference[..]),
+        (
+            "first output",
+            &expected.outputs[0][..],
+            &got.outputs[0][..],
+        ),
+        ("second output", &expected.outputs[1], &got.outputs[1]),
         ("field", &expected.fields[..], &got.fields[..]),
         ("read-out", &expected.reads[..], &got.reads[..]),
     ];
@@ -86,22 +90,22 @@ impl<'a, F: Compared> Session<'a, F> {
     /// fast one, else the document's cause 0.
     fn expected(&mut self, call: &Call<F::Sample>) -> Outcome {
         let fields = self.fields();
-        if let Call::Block(b) = call
+        if let Some(b) = call.block()
             && !F::is_fit(&fields)
         {
             return answers::unfit::<F>(fields, b);
         }
         let before = self.reference;
         let fast = answers::call(Side::Fallback, &mut self.fallback, call);
-        if matches!(call, Call::Block(_)) && !F::takes(Side::Reference, &fields) {
+        if call.block().is_some() && !F::takes(Side::Reference, &fields) {
             self.part.alone += 1;
             self.reference = self.fallback;
             return fast;
         }
         let plain = answers::call(Side::Reference, &mut self.reference, call);
         if fast != plain {
-            let known = matches!(call, Call::Block(b) if F::may_differ(&before, b));
-            if known {
+            let may_differ = |b| F::may_differ(&before, b);
+            if call.block().is_some_and(may_differ) {
                 self.part.stopped += 1;
             } else {
                 let text = difference(&plain, &fast);
@@ -122,7 +126,7 @@ impl<'a, F: Compared> Session<'a, F> {
                 Way::Fast => &mut self.fast,
             };
             let got = record.call(way, call);
-            self.part.samples += (got.sum.len() + got.difference.len()) as u64;
+            self.part.samples += got.outputs.iter().map(|x| x.len() as u64).sum::<u64>();
             self.part.said(got.said);
             self.part.stereo += got.reads[3];
             let (begun, calls) = (&self.begun, self.calls);
@@ -259,8 +263,7 @@ fn near_the_top() -> bool {
             table: vec![-32768; TABLE],
             mpx: vec![0; n],
             pilot: vec![-32768; n],
-            sum: vec![9; n],
-            difference: vec![9; n],
+            outputs: [vec![9; n], vec![9; n]],
         };
         s.call(&Call::Block(b));
         s.go(&mut r);
@@ -342,8 +345,7 @@ fn history<F: Ruled>(name: &'static str, count: u64) -> bool {
                 table: table.clone(),
                 mpx: vec![p],
                 pilot: vec![p],
-                sum: vec![p],
-                difference: vec![p],
+                outputs: [vec![p], vec![p]],
             };
             let got = record.call(Way::Fast, &Call::Block(b));
             let f = record.fields();

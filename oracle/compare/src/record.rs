@@ -1,6 +1,6 @@
 //! Our decoder, plain or fast, behind the calls of `decoder_oracle::answers`.
 
-use decoder_oracle::answers::{Arguments, Block, Call, Format, Outcome, words};
+use decoder_oracle::answers::{Arguments, Block, Call, Format, Outcome, Outputs, output_words};
 use numbers_oracle::answers::word_f64;
 use pescrondilu_sys::decoder::{self, Decoder, Sample, Way};
 use sdrk_core::probe::Fields;
@@ -92,34 +92,38 @@ impl<F: Ours> Record<F> {
     }
 
     /// A block, with its outputs as they are left.
-    fn run(&mut self, way: Way, b: &Block<F::Sample>) -> (Said, Vec<u64>, Vec<u64>) {
-        let (mut sum, mut difference) = (b.sum.clone(), b.difference.clone());
-        let reply = decoder::block(
-            way,
-            self.0,
-            &b.table,
-            &b.mpx,
-            &b.pilot,
-            &mut sum,
-            &mut difference,
-        );
+    fn block(&mut self, way: Way, b: &Block<F::Sample>) -> (Said, Outputs<F::Sample>) {
+        let mut outputs = b.outputs.clone();
+        let [sum, difference] = &mut outputs;
+        let reply = decoder::block(way, self.0, &b.table, &b.mpx, &b.pilot, sum, difference);
         self.0 = reply.decoder;
-        let said = reply.answer.numbers();
-        (said, words::<F>(&sum), words::<F>(&difference))
+        (reply.answer.numbers(), outputs)
+    }
+
+    /// A merged block: the matrix of a block's outputs.
+    fn merged(&mut self, way: Way, b: &Block<F::Sample>) -> (Said, Outputs<F::Sample>) {
+        let (said, mut outputs) = self.block(way, b);
+        if said == ACCEPTED {
+            let [sum, difference] = outputs.clone();
+            let [left, right] = &mut outputs;
+            let answer = decoder::matrix(&sum, &difference, left, right);
+            assert_eq!(answer.numbers(), ACCEPTED);
+        }
+        (said, outputs)
     }
 
     pub fn call(&mut self, way: Way, call: &Call<F::Sample>) -> Outcome {
-        let (mut said, mut sum, mut difference) = (ACCEPTED, Vec::new(), Vec::new());
+        let (mut said, mut outputs) = (ACCEPTED, Default::default());
         match call {
             Call::Enable => self.0 = F::Sample::ENABLE(self.0),
             Call::Disable => self.0 = F::Sample::DISABLE(self.0),
             Call::Reset => self.0 = F::Sample::RESET(self.0),
-            Call::Block(b) => (said, sum, difference) = self.run(way, b),
+            Call::Block(b) => (said, outputs) = self.block(way, b),
+            Call::Merged(b) => (said, outputs) = self.merged(way, b),
         }
         Outcome {
             said,
-            sum,
-            difference,
+            outputs: output_words::<F>(&outputs),
             fields: self.words(),
             reads: self.reads(),
         }

@@ -11,7 +11,7 @@ use sdrk_core::tables::{COS_F32, COS_Q15};
 use sdrk_core::timing::Rate;
 use sdrk_core::types::{C32, CQ15, Q15, RealSample};
 use sdrk_core::{Fallback, Reference};
-use stereo_oracle::answers::{ACCEPTED, Said, Side, TABLE};
+use stereo_oracle::answers::{ACCEPTED, Matrixed, Said, Side, TABLE, matrix_f32, matrix_q15};
 
 /// What a decoder is constructed with.
 #[derive(Clone, Copy, Debug)]
@@ -29,10 +29,14 @@ impl Arguments {
     }
 }
 
+/// Of sum and difference into left and right.
+type Matrix<S> = fn(Side, &[S], &[S], &[S], &[S]) -> Matrixed;
+
 /// One of the decoder's two formats.
 pub trait Format: RealSample {
     type Sample: Copy + Debug;
     type Value: Copy + Debug;
+    const MATRIX: Matrix<Self::Sample>;
 
     fn word_sample(x: Self::Sample) -> u64;
     fn word_value(x: Self::Value) -> u64;
@@ -56,6 +60,7 @@ pub trait Format: RealSample {
 impl Format for f32 {
     type Sample = f32;
     type Value = f32;
+    const MATRIX: Matrix<f32> = matrix_f32;
 
     fn word_sample(x: f32) -> u64 {
         word_f32(x)
@@ -102,6 +107,7 @@ impl Format for f32 {
 impl Format for Q15 {
     type Sample = i16;
     type Value = i64;
+    const MATRIX: Matrix<i16> = matrix_q15;
 
     fn word_sample(x: i16) -> u64 {
         word_i16(x)
@@ -243,26 +249,38 @@ pub fn new<F: Format>(a: Arguments) -> Result<StereoPllState<F>, u32> {
 #[derive(Clone, Debug)]
 pub enum Call<S> {
     Block(Block<S>),
+    Merged(Block<S>),
     Enable,
     Disable,
     Reset,
 }
+
+impl<S> Call<S> {
+    /// The block of either sort.
+    pub fn block(&self) -> Option<&Block<S>> {
+        match self {
+            Call::Block(b) | Call::Merged(b) => Some(b),
+            Call::Enable | Call::Disable | Call::Reset => None,
+        }
+    }
+}
+
+/// A block's two outputs: sum and difference, of a merged one left and right.
+pub type Outputs<S> = [Vec<S>; 2];
 
 #[derive(Clone, Debug)]
 pub struct Block<S> {
     pub table: Vec<S>,
     pub mpx: Vec<S>,
     pub pilot: Vec<S>,
-    pub sum: Vec<S>,
-    pub difference: Vec<S>,
+    pub outputs: Outputs<S>,
 }
 
 /// What a call answers and leaves, in words: any NaN has one word.
 #[derive(Clone, Debug, PartialEq)]
 pub struct Outcome {
     pub said: Said,
-    pub sum: Vec<u64>,
-    pub difference: Vec<u64>,
+    pub outputs: Outputs<u64>,
     pub fields: [u64; 12],
     /// integrator, its limit, lock level, stereo, phase, enabled
     pub reads: [u64; 6],
@@ -297,8 +315,10 @@ fn read_words<F: Format>(s: &StereoPllState<F>) -> [u64; 6] {
     ]
 }
 
-pub fn words<F: Format>(samples: &[F::Sample]) -> Vec<u64> {
-    samples.iter().map(|x| F::word_sample(*x)).collect()
+pub fn output_words<F: Format>(outputs: &Outputs<F::Sample>) -> Outputs<u64> {
+    outputs
+        .each_ref()
+        .map(|x| x.iter().map(|y| F::word_sample(*y)).collect())
 }
 
 /// The answer by the length rule: the document's for the table and for the second output, the
@@ -312,7 +332,7 @@ fn lengths<F: Format>(side: Side, state: &StereoPllState<F>, b: &Block<F::Sample
     } else {
         110
     };
-    for output in [b.sum.len(), b.difference.len()] {
+    for output in b.outputs.each_ref().map(Vec::len) {
         if output == b.mpx.len() && b.pilot.len() == b.mpx.len() {
             continue;
         }
@@ -328,45 +348,66 @@ fn lengths<F: Format>(side: Side, state: &StereoPllState<F>, b: &Block<F::Sample
     ACCEPTED
 }
 
+/// What a block answers, and its outputs as it leaves them: what `given` makes of its pairs.
+fn block<F: Format>(
+    side: Side,
+    state: &mut StereoPllState<F>,
+    b: &Block<F::Sample>,
+    given: impl Fn(&Outputs<F::Sample>) -> Outputs<u64>,
+) -> (Said, Outputs<u64>) {
+    let said = lengths(side, state, b);
+    if said != ACCEPTED {
+        return (said, output_words::<F>(&b.outputs));
+    }
+    let n = b.mpx.len();
+    let (answer, pairs) = F::run(side, state, &b.table, &b.mpx, &b.pilot, n);
+    assert_eq!(answer, Ok(()));
+    let (sum, difference) = pairs.into_iter().unzip();
+    (said, given(&[sum, difference]))
+}
+
+/// The matrix of a block's pairs, by the same implementation.
+fn matrixed<F: Format>(
+    side: Side,
+    [sum, difference]: &Outputs<F::Sample>,
+    [left, right]: &Outputs<F::Sample>,
+) -> Outputs<u64> {
+    let m = F::MATRIX(side, sum, difference, left, right);
+    assert_eq!(m.said, ACCEPTED);
+    [m.left, m.right]
+}
+
 /// A call, carried out by one of the original's implementations, which takes the record.
 pub fn call<F: Format>(
     side: Side,
     state: &mut StereoPllState<F>,
     call: &Call<F::Sample>,
 ) -> Outcome {
-    let (mut said, mut sum, mut difference) = (ACCEPTED, Vec::new(), Vec::new());
+    let (mut said, mut outputs) = (ACCEPTED, Default::default());
     match call {
         Call::Enable => state.set_enabled(true),
         Call::Disable => state.set_enabled(false),
         Call::Reset => state.reset(),
-        Call::Block(b) => {
-            said = lengths(side, state, b);
-            (sum, difference) = (words::<F>(&b.sum), words::<F>(&b.difference));
-            if said == ACCEPTED {
-                let n = b.mpx.len();
-                let (answer, pairs) = F::run(side, state, &b.table, &b.mpx, &b.pilot, n);
-                assert_eq!(answer, Ok(()));
-                sum = pairs.iter().map(|p| F::word_sample(p.0)).collect();
-                difference = pairs.iter().map(|p| F::word_sample(p.1)).collect();
-            }
+        Call::Block(b) => (said, outputs) = block(side, state, b, output_words::<F>),
+        Call::Merged(b) => {
+            let given = |pairs: &_| matrixed::<F>(side, pairs, &b.outputs);
+            (said, outputs) = block(side, state, b, given);
         }
     }
     Outcome {
         said,
-        sum,
-        difference,
+        outputs,
         fields: field_words::<F>(&F::fields(state)),
         reads: read_words(state),
     }
 }
 
-/// A block on an unfit record, by the document: cause 0, and nothing changes.
+/// A block of either sort on an unfit record, by the document: cause 0, and nothing changes.
 pub fn unfit<F: Format>(fields: Fields<F::Value>, b: &Block<F::Sample>) -> Outcome {
     let state = F::state(fields);
     Outcome {
         said: [100, 0, 0],
-        sum: words::<F>(&b.sum),
-        difference: words::<F>(&b.difference),
+        outputs: output_words::<F>(&b.outputs),
         fields: field_words::<F>(&fields),
         reads: read_words(&state),
     }

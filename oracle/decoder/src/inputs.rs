@@ -373,14 +373,13 @@ impl Drawn for Q15 {
 
 const LENGTHS: [usize; 6] = [0, 1, 2, 63, 64, 65];
 
-/// A block with chosen lengths of table, mpx, pilot, sum and difference.
+/// A block with chosen lengths of table, mpx, pilot and both outputs.
 pub fn block_of<F: Drawn>(r: &mut Inputs, n: [usize; 5], f: &Fields<F::Value>) -> Block<F::Sample> {
     Block {
         table: F::table(r, n[0]),
         mpx: F::samples(r, n[1]),
         pilot: F::pilot(r, n[2], f),
-        sum: F::samples(r, n[3]),
-        difference: F::samples(r, n[4]),
+        outputs: [F::samples(r, n[3]), F::samples(r, n[4])],
     }
 }
 
@@ -407,10 +406,11 @@ pub fn block<F: Drawn>(r: &mut Inputs, f: &Fields<F::Value>) -> Block<F::Sample>
 }
 
 pub fn call<F: Drawn>(r: &mut Inputs, f: &Fields<F::Value>) -> Call<F::Sample> {
-    match r.below(10) {
+    match r.below(12) {
         0 => Call::Enable,
         1 => Call::Disable,
         2 => Call::Reset,
+        3..=5 => Call::Merged(block::<F>(r, f)),
         _ => Call::Block(block::<F>(r, f)),
     }
 }

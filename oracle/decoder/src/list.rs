@@ -32,6 +32,9 @@ trait Listed: Made + Drawn {
     const HAND: &str;
     const SET: &str;
     const BLOCK: &str;
+    const MERGED: &str;
+    /// The word of -0 where the format has one: a mono block merges it into both zeros.
+    const NOUGHT: u64;
     /// What an output holds before a block.
     const NINE: Self::Sample;
     /// A pilot at the decoder's own frequency and phase.
@@ -49,6 +52,8 @@ impl Listed for f32 {
     const HAND: &str = "hand_f32";
     const SET: &str = "set_f32";
     const BLOCK: &str = "block_f32";
+    const MERGED: &str = "merged_f32";
+    const NOUGHT: u64 = 0x8000_0000;
     const NINE: f32 = 9.0;
 
     fn sine(size: f32, table: &[f32], p: u32) -> f32 {
@@ -78,6 +83,8 @@ impl Listed for Q15 {
     const HAND: &str = "hand_q15";
     const SET: &str = "set_q15";
     const BLOCK: &str = "block_q15";
+    const MERGED: &str = "merged_q15";
+    const NOUGHT: u64 = 0;
     const NINE: i16 = 9;
 
     fn sine(size: i16, table: &[i16], p: u32) -> i16 {
@@ -112,6 +119,13 @@ fn digest(words: impl IntoIterator<Item = u64>, first: u64) -> u64 {
         .fold(first, |h, w| (h % P * 1000003 + w % P) % P)
 }
 
+/// Whether a block gives the decoder's pairs, or left and right.
+#[derive(Clone, Copy)]
+enum Sort {
+    Block,
+    Merged,
+}
+
 /// The words of a block's line.
 #[derive(Clone, Copy)]
 struct Spec {
@@ -124,13 +138,25 @@ struct Spec {
 }
 
 impl Spec {
+    /// Of n samples, with no odd one in the pilot.
+    fn even(n: usize, table: u64, mpx: u64, pilot: u64) -> Self {
+        Spec {
+            table,
+            mpx,
+            lengths: [TABLE, n, n, n, n],
+            place: NOWHERE,
+            odd: 0,
+            pilot,
+        }
+    }
+
     fn words(&self) -> [u64; 5] {
-        let [t, m, p, s, d] = self.lengths.map(|n| n as u64);
+        let [t, m, p, first, second] = self.lengths.map(|n| n as u64);
         [
             self.table,
             self.mpx,
-            t | m << 16 | p << 32 | s << 48,
-            d | self.place << 16 | self.odd << 32,
+            t | m << 16 | p << 32 | first << 48,
+            second | self.place << 16 | self.odd << 32,
             self.pilot,
         ]
     }
@@ -148,14 +174,13 @@ impl Spec {
         if let Some(x) = pilot.get_mut(self.place as usize) {
             *x = F::low(self.odd);
         }
-        let [t, m, p, s, d] = self.lengths;
+        let [t, m, p, first, second] = self.lengths;
         pilot.truncate(p);
         Block {
             table: whole[..t].to_vec(),
             mpx: filled::<F>(self.mpx, m),
             pilot,
-            sum: vec![F::NINE; s],
-            difference: vec![F::NINE; d],
+            outputs: [vec![F::NINE; first], vec![F::NINE; second]],
         }
     }
 }
@@ -203,6 +228,7 @@ impl List {
             let rest = std::iter::repeat_n(F::word_sample(F::NINE), ROOM - x.len());
             digest(x.iter().copied().chain(rest), 1)
         };
+        let [first, second] = &o.outputs;
         let f = &o.fields;
         let gains = digest(f[..6].iter().copied(), f[6]);
         let said = o.said.map(|n| n as u64);
@@ -210,8 +236,8 @@ impl List {
             said[0],
             said[1],
             said[2],
-            output(&o.sum),
-            output(&o.difference),
+            output(first),
+            output(second),
             gains,
             f[7],
             f[8],
@@ -226,7 +252,7 @@ impl List {
     /// document's; where both answer they agree, but for the stop.
     fn answer<F: Listed>(state: &mut StereoPllState<F>, call: &Call<F::Sample>) -> Outcome {
         let fields = F::fields(state);
-        if let Call::Block(b) = call
+        if let Some(b) = call.block()
             && !F::is_fit(&fields)
         {
             return answers::unfit::<F>(fields, b);
@@ -239,15 +265,25 @@ impl List {
         }
         let before = *state;
         let plain = answers::call(Side::Reference, state, call);
-        let stopped = matches!(call, Call::Block(b) if fast != plain && F::may_differ(&before, b));
-        assert!(fast == plain || stopped);
+        let may_differ = |b| F::may_differ(&before, b);
+        assert!(fast == plain || call.block().is_some_and(may_differ));
         plain
     }
 
-    fn block<F: Listed>(&mut self, state: &mut StereoPllState<F>, spec: Spec) {
-        let call = Call::Block(spec.block::<F>(&F::fields(state)));
+    fn block<F: Listed>(
+        &mut self,
+        sort: Sort,
+        state: &mut StereoPllState<F>,
+        spec: Spec,
+    ) -> Outcome {
+        let block = spec.block::<F>(&F::fields(state));
+        let (name, call) = match sort {
+            Sort::Block => (F::BLOCK, Call::Block(block)),
+            Sort::Merged => (F::MERGED, Call::Merged(block)),
+        };
         let outcome = Self::answer(state, &call);
-        self.line(F::BLOCK, &spec.words(), &Self::left::<F>(&outcome));
+        self.line(name, &spec.words(), &Self::left::<F>(&outcome));
+        outcome
     }
 
     fn set<F: Listed>(&mut self, state: &mut StereoPllState<F>, which: u64) {
@@ -283,7 +319,11 @@ impl List {
                 6 => CALM | seed(r),
                 _ => ANY | seed(r),
             },
-            mpx: one(r, &[CALM, ANY]) | seed(r),
+            mpx: match r.below(8) {
+                0 => ONE | F::NOUGHT,
+                1..=4 => CALM | seed(r),
+                _ => ANY | seed(r),
+            },
             lengths,
             place: if r.below(3) == 0 {
                 r.below(80)
@@ -301,12 +341,13 @@ impl List {
     }
 
     fn session<F: Listed>(&mut self, mut state: StereoPllState<F>) {
-        for _ in 0..5 + self.r.below(6) {
-            match self.r.below(8) {
+        for _ in 0..6 + self.r.below(6) {
+            match self.r.below(9) {
                 k @ 0..=2 => self.set(&mut state, k),
-                _ => {
+                k => {
+                    let sort = if k < 5 { Sort::Merged } else { Sort::Block };
                     let spec = self.spec::<F>(&F::fields(&state));
-                    self.block(&mut state, spec);
+                    self.block(sort, &mut state, spec);
                 }
             }
         }
@@ -330,7 +371,7 @@ impl List {
     }
 
     /// The decoder of docs/DIFFERENCES.md on which the original's two implementations differ.
-    fn near_the_top(&mut self) {
+    fn near_the_top(&mut self, sort: Sort) {
         let a = Arguments {
             pilot: 19000.0,
             natural: 40.0,
@@ -340,16 +381,19 @@ impl List {
         };
         let mut state = self.construct::<Q15>(a).expect("accepted");
         let low = ONE | 0x8000;
-        let spec = Spec {
-            table: low,
-            mpx: ONE,
-            lengths: [TABLE, 1, 1, 1, 1],
-            place: NOWHERE,
-            odd: 0,
-            pilot: low,
-        };
-        self.block(&mut state, spec);
+        self.block(sort, &mut state, Spec::even(1, low, ONE, low));
         assert_eq!(state.phase(), 2572506452);
+    }
+
+    /// A merged block of a silent pilot, so in mono, and an mpx of -0.
+    fn merged_minus_zero(&mut self) {
+        let a = inputs::good_arguments(&mut self.r);
+        let mut state = self
+            .construct::<f32>(a)
+            .expect("good arguments are accepted");
+        let spec = Spec::even(ROOM, TRIANGLE, ONE | f32::NOUGHT, ONE);
+        let outcome = self.block(Sort::Merged, &mut state, spec);
+        assert_eq!(outcome.outputs, [vec![0; ROOM], vec![f32::NOUGHT; ROOM]]);
     }
 }
 
@@ -364,7 +408,9 @@ fn main() {
     };
     list.format::<f32>();
     list.format::<Q15>();
-    list.near_the_top();
+    list.near_the_top(Sort::Block);
+    list.near_the_top(Sort::Merged);
+    list.merged_minus_zero();
     if let Err(e) = std::fs::write(&path, &list.text) {
         eprintln!("{}: {e}", path.display());
         std::process::exit(1);
