@@ -1,6 +1,6 @@
 // Replays the list of the original's answers, data/decoder.txt, through the decoder, plain and
-// fast, and writes how many lines of each call agree. oracle/README.md says what a line holds and
-// how the list was made.
+// fast, merged blocks among its calls, and writes how many lines of each call agree.
+// oracle/README.md says what a line holds and how the list was made.
 use libc::STDOUT_FILENO;
 
 mod desk;

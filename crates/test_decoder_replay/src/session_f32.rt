@@ -3,6 +3,7 @@ use crate::lengths::length;
 use crate::names;
 use crate::words12;
 use answers::answer::Answer;
+use answers::answer::is_accepted;
 use decoder::parts::ReplyF32;
 use decoder_record::pll_f32::NewF32;
 use decoder_record::pll_f32::StereoPllF32;
@@ -11,6 +12,7 @@ use test_lines::words::f64_of;
 use test_lines::words::u32_of;
 use test_lines::words::word_f32;
 use test_lines::words::word_u32;
+ghost use Prim.Native.Nat.{_≤_};
 
 // What a call answers, and the decoder after it.
 pub struct TurnF32 {
@@ -139,9 +141,10 @@ fn pilot(d: StereoPllF32, w: &[u64; 17], table: &[f32]) -> [f32; 80] {
     out
 }
 
-// A block, plain or fast.
+// A block, plain or fast. Only the fast way has a merged one; the plain way takes the matrix after.
 fn either(
     fast: bool,
+    merged: bool,
     d: StereoPllF32,
     table: &[f32],
     mpx: &[f32],
@@ -149,15 +152,31 @@ fn either(
     sum: &mut [f32],
     difference: &mut [f32],
 ) -> ReplyF32 {
-    if fast {
-        return decoder::fast::block(d, table, mpx, pilot, sum, difference);
+    if !fast {
+        return decoder::plain::block(d, table, mpx, pilot, sum, difference);
     }
-    decoder::plain::block(d, table, mpx, pilot, sum, difference)
+    if merged {
+        return merged::in_f32::block(d, table, mpx, pilot, sum, difference);
+    }
+    decoder::fast::block(d, table, mpx, pilot, sum, difference)
 }
 
-// The outputs hold 9 before the block.
+// The plain way's merged block: the matrix of an accepted plain block's outputs, of n samples.
+fn matrixed(d: StereoPllF32, n: usize, sum: &[f32; 80], difference: &[f32; 80]) -> TurnF32
+    requires { ⌜ n ≤ 80 ⌝ }
+{
+    let mut l = [9.0f32; 80];
+    let mut r = [9.0f32; 80];
+    let s = &sum[..];
+    let e = &difference[..];
+    let a = matrix::matrix::matrix_f32(&s[0..n], &e[0..n], &mut l[0..n], &mut r[0..n]);
+    left(a, words12::digest_f32(&l), words12::digest_f32(&r), d)
+}
+
+// The outputs hold 9 before the block; those of a merged one are left and right.
 fn outputs(
     fast: bool,
+    merged: bool,
     d: StereoPllF32,
     w: &[u64; 17],
     table: &[f32],
@@ -170,6 +189,7 @@ fn outputs(
     let nd = length(w[3], 80);
     let reply = either(
         fast,
+        merged,
         d,
         table,
         mpx,
@@ -178,16 +198,20 @@ fn outputs(
         &mut difference[0..nd],
     );
     let a = reply.answer;
+    let next = reply.decoder;
+    if merged & !fast & is_accepted(a) {
+        return matrixed(next, ns, &sum, &difference);
+    }
     left(
         a,
         words12::digest_f32(&sum),
         words12::digest_f32(&difference),
-        reply.decoder,
+        next,
     )
 }
 
-// A block of the lengths that the line has.
-fn block(fast: bool, d: StereoPllF32, w: &[u64; 17]) -> TurnF32 {
+// A block of either sort, of the lengths that the line has.
+fn block(fast: bool, merged: bool, d: StereoPllF32, w: &[u64; 17]) -> TurnF32 {
     let mut table = [0.0f32; 4098];
     test_samples::fill_f32(w[0], &mut table);
     let mut mpx = [0.0f32; 80];
@@ -196,7 +220,7 @@ fn block(fast: bool, d: StereoPllF32, w: &[u64; 17]) -> TurnF32 {
     let nt = length(w[2], 4098);
     let nm = length(w[2] / 65536, 80);
     let np = length(w[2] / 4294967296, 80);
-    outputs(fast, d, w, &table[0..nt], &mpx[0..nm], &p[0..np])
+    outputs(fast, merged, d, w, &table[0..nt], &mpx[0..nm], &p[0..np])
 }
 
 fn call(fast: bool, d: StereoPllF32, name: usize, w: &[u64; 17]) -> TurnF32 {
@@ -204,7 +228,7 @@ fn call(fast: bool, d: StereoPllF32, name: usize, w: &[u64; 17]) -> TurnF32 {
         names::NEW_F32 => new(d, w),
         names::HAND_F32 => hand(w),
         names::SET_F32 => set(d, w[0]),
-        _ => block(fast, d, w),
+        _ => block(fast, name == names::MERGED_F32, d, w),
     }
 }
 

@@ -3,6 +3,7 @@ use crate::lengths::length;
 use crate::names;
 use crate::words12;
 use answers::answer::Answer;
+use answers::answer::is_accepted;
 use decoder_q15::parts::ReplyQ15;
 use decoder_record::pll_q15::NewQ15;
 use decoder_record::pll_q15::StereoPllQ15;
@@ -12,6 +13,7 @@ use test_lines::words::i64_of;
 use test_lines::words::u32_of;
 use test_lines::words::word_i64;
 use test_lines::words::word_u32;
+ghost use Prim.Native.Nat.{_≤_};
 
 // What a call answers, and the decoder after it.
 pub struct TurnQ15 {
@@ -143,9 +145,10 @@ fn pilot(d: StereoPllQ15, w: &[u64; 17], table: &[i16]) -> [i16; 80] {
     out
 }
 
-// A block, plain or fast.
+// A block, plain or fast. Only the fast way has a merged one; the plain way takes the matrix after.
 fn either(
     fast: bool,
+    merged: bool,
     d: StereoPllQ15,
     table: &[i16],
     mpx: &[i16],
@@ -153,15 +156,31 @@ fn either(
     sum: &mut [i16],
     difference: &mut [i16],
 ) -> ReplyQ15 {
-    if fast {
-        return decoder_q15::fast::block(d, table, mpx, pilot, sum, difference);
+    if !fast {
+        return decoder_q15::plain::block(d, table, mpx, pilot, sum, difference);
     }
-    decoder_q15::plain::block(d, table, mpx, pilot, sum, difference)
+    if merged {
+        return merged::in_q15::block(d, table, mpx, pilot, sum, difference);
+    }
+    decoder_q15::fast::block(d, table, mpx, pilot, sum, difference)
 }
 
-// The outputs hold 9 before the block.
+// The plain way's merged block: the matrix of an accepted plain block's outputs, of n samples.
+fn matrixed(d: StereoPllQ15, n: usize, sum: &[i16; 80], difference: &[i16; 80]) -> TurnQ15
+    requires { ⌜ n ≤ 80 ⌝ }
+{
+    let mut l = [9i16; 80];
+    let mut r = [9i16; 80];
+    let s = &sum[..];
+    let e = &difference[..];
+    let a = matrix::matrix::matrix_q15(&s[0..n], &e[0..n], &mut l[0..n], &mut r[0..n]);
+    left(a, words12::digest_q15(&l), words12::digest_q15(&r), d)
+}
+
+// The outputs hold 9 before the block; those of a merged one are left and right.
 fn outputs(
     fast: bool,
+    merged: bool,
     d: StereoPllQ15,
     w: &[u64; 17],
     table: &[i16],
@@ -174,6 +193,7 @@ fn outputs(
     let nd = length(w[3], 80);
     let reply = either(
         fast,
+        merged,
         d,
         table,
         mpx,
@@ -182,16 +202,20 @@ fn outputs(
         &mut difference[0..nd],
     );
     let a = reply.answer;
+    let next = reply.decoder;
+    if merged & !fast & is_accepted(a) {
+        return matrixed(next, ns, &sum, &difference);
+    }
     left(
         a,
         words12::digest_q15(&sum),
         words12::digest_q15(&difference),
-        reply.decoder,
+        next,
     )
 }
 
-// A block of the lengths that the line has.
-fn block(fast: bool, d: StereoPllQ15, w: &[u64; 17]) -> TurnQ15 {
+// A block of either sort, of the lengths that the line has.
+fn block(fast: bool, merged: bool, d: StereoPllQ15, w: &[u64; 17]) -> TurnQ15 {
     let mut table = [0i16; 4098];
     test_samples::fill_q15(w[0], &mut table);
     let mut mpx = [0i16; 80];
@@ -200,7 +224,7 @@ fn block(fast: bool, d: StereoPllQ15, w: &[u64; 17]) -> TurnQ15 {
     let nt = length(w[2], 4098);
     let nm = length(w[2] / 65536, 80);
     let np = length(w[2] / 4294967296, 80);
-    outputs(fast, d, w, &table[0..nt], &mpx[0..nm], &p[0..np])
+    outputs(fast, merged, d, w, &table[0..nt], &mpx[0..nm], &p[0..np])
 }
 
 fn call(fast: bool, d: StereoPllQ15, name: usize, w: &[u64; 17]) -> TurnQ15 {
@@ -208,7 +232,7 @@ fn call(fast: bool, d: StereoPllQ15, name: usize, w: &[u64; 17]) -> TurnQ15 {
         names::NEW_Q15 => new(d, w),
         names::HAND_Q15 => hand(w),
         names::SET_Q15 => set(d, w[0]),
-        _ => block(fast, d, w),
+        _ => block(fast, name == names::MERGED_Q15, d, w),
     }
 }
 
