@@ -1,5 +1,6 @@
-// Runs document 01's other cases of the decoder, and one case for each refusal, plain and fast. What
-// each has to write stands in the file stdout; it was worked out from the document.
+// Runs document 01's other cases of the decoder, and one case for each refusal, plain and fast, and
+// those of the merged block (left_right.rt). What each has to write stands in the file stdout; it was
+// worked out from the document.
 use crate::show::done;
 use crate::show::label;
 use crate::show::number;
@@ -19,6 +20,7 @@ ghost use mathlib.Core.Path.{_≡_};
 ghost use Prim.Native.Nat.{_≤_};
 ghost use lib.ListN.{length};
 
+mod left_right;
 mod show;
 
 // A construction in f32: the limit's pattern, or the refusal.
@@ -327,4 +329,8 @@ fn main() {
     at_the_top();
     odd_f32(&ones);
     scans();
+    left_right::causes_f32(&ones);
+    left_right::causes_q15(&halves);
+    left_right::minus_zero(&ones);
+    left_right::samples_q15(&halves);
 }
