@@ -127,6 +127,7 @@ impl<'a, F: Compared> Session<'a, F> {
             };
             let got = record.call(way, call);
             self.part.samples += got.outputs.iter().map(|x| x.len() as u64).sum::<u64>();
+            self.part.merged += matches!(call, Call::Merged(_)) as u64;
             self.part.said(got.said);
             self.part.stereo += got.reads[3];
             let (begun, calls) = (&self.begun, self.calls);
@@ -232,6 +233,7 @@ fn one_place() -> bool {
                     _ => inputs::not_finite(&mut r),
                 };
                 s.call(&Call::Block(b.clone()));
+                s.call(&Call::Merged(b.clone()));
                 s.call(&Call::Block(b));
             }
         }
@@ -265,7 +267,10 @@ fn near_the_top() -> bool {
             pilot: vec![-32768; n],
             outputs: [vec![9; n], vec![9; n]],
         };
-        s.call(&Call::Block(b));
+        s.call(&match k % 2 {
+            0 => Call::Block(b),
+            _ => Call::Merged(b),
+        });
         s.go(&mut r);
     }
     if part.stopped == 0 {
@@ -347,7 +352,11 @@ fn history<F: Ruled>(name: &'static str, count: u64) -> bool {
                 pilot: vec![p],
                 outputs: [vec![p], vec![p]],
             };
-            let got = record.call(Way::Fast, &Call::Block(b));
+            let call = match r.below(3) {
+                0 => Call::Merged(b),
+                _ => Call::Block(b),
+            };
+            let got = record.call(Way::Fast, &call);
             let f = record.fields();
             if F::is_finite(p) {
                 levels.push(f.level);

@@ -12,6 +12,8 @@ pub struct Part {
     pub cases: u64,
     // of blocks: the output samples compared
     pub samples: u64,
+    // calls that are merged blocks of the decoder
+    pub merged: u64,
     // decoder calls after which the decoder says stereo
     pub stereo: u64,
     // decoder blocks that the plain original does not take, so that the fast one answers alone
@@ -29,6 +31,7 @@ impl Part {
             name,
             cases: 0,
             samples: 0,
+            merged: 0,
             stereo: 0,
             alone: 0,
             stopped: 0,
@@ -93,6 +96,9 @@ impl Part {
         print!("{:16} {} cases", self.name, self.cases);
         if self.samples > 0 {
             print!(" of {} samples", self.samples);
+        }
+        if self.merged > 0 {
+            print!(", {} merged blocks", self.merged);
         }
         for (number, count) in &self.refused {
             print!(", {count} refused by {number}");

@@ -100,16 +100,26 @@ impl<F: Ours> Record<F> {
         (reply.answer.numbers(), outputs)
     }
 
-    /// A merged block: the matrix of a block's outputs.
-    fn merged(&mut self, way: Way, b: &Block<F::Sample>) -> (Said, Outputs<F::Sample>) {
-        let (said, mut outputs) = self.block(way, b);
-        if said == ACCEPTED {
-            let [sum, difference] = outputs.clone();
-            let [left, right] = &mut outputs;
-            let answer = decoder::matrix(&sum, &difference, left, right);
-            assert_eq!(answer.numbers(), ACCEPTED);
+    /// A merged block, which is one call.
+    fn merged(&mut self, b: &Block<F::Sample>) -> (Said, Outputs<F::Sample>) {
+        let mut outputs = b.outputs.clone();
+        let [left, right] = &mut outputs;
+        let reply = decoder::merged_block(self.0, &b.table, &b.mpx, &b.pilot, left, right);
+        self.0 = reply.decoder;
+        (reply.answer.numbers(), outputs)
+    }
+
+    /// The plain way's merged block: a plain block, and the matrix of its outputs or its refusal.
+    fn merged_plain(&mut self, b: &Block<F::Sample>) -> (Said, Outputs<F::Sample>) {
+        let (said, pairs) = self.block(Way::Plain, b);
+        if said != ACCEPTED {
+            return (said, pairs);
         }
-        (said, outputs)
+        let [sum, difference] = &pairs;
+        let mut outputs = b.outputs.clone();
+        let [left, right] = &mut outputs;
+        let answer = decoder::matrix(sum, difference, left, right);
+        (answer.numbers(), outputs)
     }
 
     pub fn call(&mut self, way: Way, call: &Call<F::Sample>) -> Outcome {
@@ -119,7 +129,12 @@ impl<F: Ours> Record<F> {
             Call::Disable => self.0 = F::Sample::DISABLE(self.0),
             Call::Reset => self.0 = F::Sample::RESET(self.0),
             Call::Block(b) => (said, outputs) = self.block(way, b),
-            Call::Merged(b) => (said, outputs) = self.merged(way, b),
+            Call::Merged(b) => {
+                (said, outputs) = match way {
+                    Way::Plain => self.merged_plain(b),
+                    Way::Fast => self.merged(b),
+                }
+            }
         }
         Outcome {
             said,
