@@ -48,8 +48,7 @@ pub fn cos_f32(table: &[f32], p: u32) -> f32
 }
 
 // The cosine and the sine of a phase in f32 from one index: a quarter of a turn back is 3072
-// entries on, modulo 4096, with the same fraction. The fraction comes from its digits, as 1 and the
-// fraction less 1, which takes less time than the conversion of a whole number.
+// entries on, modulo 4096, with the same fraction.
 pub fn interp_f32_pair(table: &[f32], p: u32) -> Pair
     ensures { λ r. ⌜ r ≡ pairF32 (now (table .entry)) p ⌝ }
 {
@@ -61,7 +60,7 @@ pub fn interp_f32_pair(table: &[f32], p: u32) -> Pair
             s: cos_f32(table, sine_at(p)),
         };
     }
-    let f = f32::from_bits(1065353216 + (p % 1048576) * 8) - 1.0;
+    let f = ((p % 1048576) as f32) * 9.5367431640625e-7;
     let a = table[i];
     let b = table[i + 1];
     let sa = table[j];

@@ -1,8 +1,7 @@
 use borrow.Author.Needs.{needs}
-use native.Mathlib.Omega.{arith}
 use mathlib.Core.Path.{refl}
 use lib.Ieee.{ofBits}
-use Rattle.phase.proofs.Cosine.{frac-cast, frac-is, cosF32-at, cosF32-lacks}
+use Rattle.phase.proofs.Cosine.{frac-cast, cosF32-at, cosF32-lacks}
 use Rattle.phase.proofs.lookup.cos_f32.Statement.{statement}
 use Rattle.phase.proofs.lookup.cos_f32.Tie as tie
 
@@ -14,7 +13,7 @@ int-to-float-f : tie.Need-int-to-float-f
 int-to-float-f c = frac-cast (c .before .before .args .p)
 
 returns-2 : tie.Need-returns-2
-returns-2 c = let e = c .before .before .before in cosF32-at (e .before .args .table .now) (e .before .args .p) refl (frac-is _ (omega arith)) (e .if1 .left)
+returns-2 c = let e = c .before .before .before in cosF32-at (e .before .args .table .now) (e .before .args .p) refl refl (e .if1 .left)
 
 pub cos-f32-spec : {M : Type 1} → statement M
 cos-f32-spec =
