@@ -18,6 +18,7 @@ use decoder_parts::in_f32::stereo_of;
 use decoder_parts::in_f32::within;
 use decoder_record::pll_f32::StereoPllF32;
 use phase::correction::Quick;
+use phase::correction::correction_fast;
 use phase::correction::correction_plain;
 use phase::correction::correction_quick;
 use phase::lookup::cos_f32;
@@ -34,17 +35,9 @@ ghost use Rattle.decoder_parts.specs.Rules.{allFinite};
 ghost use Rattle.decoder.specs.F32.{f32};
 ghost use Rattle.decoder_record.specs.Records.{pllF32};
 
-// The fast correction. Each loop has one of its own, as it has its own step: the compiler takes what
-// is called once into its caller, and leaves the wide way, which two call, outside.
-fn correction_checked(f: f32) -> u32
-    ensures { λ r. ⌜ r ≡ correctionOf f ⌝ }
-{
-    match correction_quick(f) {
-        Quick::Step(step) => step,
-        Quick::Wide => correction_plain(f),
-    }
-}
-
+// The fast correction, for the clean loop alone. The compiler takes what has one caller into it, and
+// leaves outside what has two: so each loop has a correction of its own, and the wide way is no part
+// of either.
 fn correction_clean(f: f32) -> u32
     ensures { λ r. ⌜ r ≡ correctionOf f ⌝ }
 {
@@ -66,7 +59,7 @@ fn step_checked(table: &[f32], d: StereoPllF32, x: f32, p: f32) -> StepF32
     let stereo = stereo_of(p, level, d.on, d.off, d.stereo);
     let difference = demodulated(stereo & d.enabled, x, s2);
     let integ = within(d.imax, accumulated(d.integ, d.ki, e));
-    let correction = correction_checked(d.kp * e + integ);
+    let correction = correction_fast(d.kp * e + integ);
     StepF32 {
         next: advanced(d, correction, integ, level, stereo),
         difference,

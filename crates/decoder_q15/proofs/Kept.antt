@@ -4,18 +4,20 @@ use mathlib.Core.Path.{_≡_, refl, ap}
 use mathlib.Core.Bool.{Bool, true, false, cond, false≢true}
 use mathlib.Core.List.{List}
 use native.Mathlib.Omega.{arith}
-use lib.IntN.{ℤ, pos, negsuc, negℤ, natAbs, _*ℤ_}
+use native.Mathlib.Nat.{le-refl, mul-le-mul}
+use lib.IntN.{ℤ, pos, negsuc, negℤ, natAbs, _+ℤ_, _*ℤ_}
 use lib.ListN.{length, getD, set}
 use lib.Signed.{mag, ltZ, leZ}
 use mir.Syntax.{w16}
 use mir.Val.{SFits}
-use Rattle.rounding.proofs.Lin.{up, dn, up-neg, dn-neg, lt-no}
+use Rattle.answers.proofs.Tests.{and-out}
+use Rattle.rounding.proofs.Lin.{up, dn, add-law, up-neg, dn-neg, up-mul, dn-mul, lt-no, le-yes, le-yes-in, abs-out}
 use Rattle.numbers.proofs.Integers.{product-le}
 use Rattle.phase.specs.Lookup.{cosQ15, sineAt}
 use Rattle.phase.proofs.Between.{cosQ15-fits}
 use Rattle.decoder_record.specs.State.{Pll}
-use Rattle.decoder_record.specs.Fit.{withinZ, fitQ15}
-use Rattle.decoder_record.proofs.Ranges.{within-in}
+use Rattle.decoder_record.specs.Fit.{withinZ, guardOf, fitQ15}
+use Rattle.decoder_record.proofs.Ranges.{within-out, within-in}
 use Rattle.decoder_record.proofs.Fit.{Fit, fit-in, fitted, room}
 use Rattle.decoder.specs.Machine.{Stepped, limited, advancedBy, stepOf}
 use Rattle.decoder_q15.specs.Q15.{q15}
@@ -54,6 +56,38 @@ module _ (d : Pll ℤ) (fit : fitQ15 d ≡ true) where
 
   pub kp-room : (x : ℤ) → natAbs (d .gains .kp) * 2 ^ 30 + natAbs (limited q15 (d .gains .imax) x) < 2 ^ 63
   kp-room x = room d fit (d .gains .kp) (f .kp) (f .kp-guard) (limited q15 (d .gains .imax) x) (limited-in x)
+
+  -- what kp's sum does not pass
+  pub guard-room : natAbs (d .gains .kp) * 2 ^ 30 + natAbs (d .gains .imax) < 2 ^ 63
+  guard-room = room d fit (d .gains .kp) (f .kp) (f .kp-guard) (d .gains .imax) (go (d .gains .imax) (f .imax))
+    where
+      go : (m : ℤ) → leZ (pos 0) m ≡ true → withinZ (negℤ m) m m ≡ true
+      go (pos m) p = within-in (negℤ (pos m)) (pos m) (pos m) (omega (arith, up-neg (pos m), dn-neg (pos m))) (omega arith)
+      go (negsuc m) p = absurd (false≢true p)
+
+  pub guard-below : leZ (guardOf (d .gains .kp) (d .gains .imax)) (pos 9223372036854775807) ≡ true
+  guard-below = and-out (leZ (negsuc 9223372036854775807) (guardOf (d .gains .kp) (d .gains .imax))) _ (f .kp-guard) .1
+
+  under-guard : (e x : ℤ) → natAbs e ≤ 2 ^ 30 → leZ (d .gains .kp *ℤ e +ℤ limited q15 (d .gains .imax) x) (guardOf (d .gains .kp) (d .gains .imax)) ≡ true
+  under-guard e x h = go (d .gains .kp) (f .kp)
+    where
+      integ : ℤ
+      integ = limited q15 (d .gains .imax) x
+
+      go : (g : ℤ) → leZ (pos 0) g ≡ true → leZ (g *ℤ e +ℤ integ) (guardOf g (d .gains .imax)) ≡ true
+      go (pos k) p =
+          let w = within-out (negℤ (d .gains .imax)) (d .gains .imax) integ (limited-in x) in
+          let l : k * up e ≤ k * 2 ^ 30 = mul-le-mul (le-refl k) (omega (arith, abs-out e)) in
+          le-yes-in (pos k *ℤ e +ℤ integ) (guardOf (pos k) (d .gains .imax))
+          (omega (arith, l, w .1, add-law (pos k *ℤ e) integ, up-mul k e, dn-mul k e, add-law (pos k *ℤ pos (2 ^ 30)) (d .gains .imax), up-mul k (pos (2 ^ 30)), dn-mul k (pos (2 ^ 30))))
+      go (negsuc k) p = absurd (false≢true p)
+
+  pub under-largest : (e x m : ℤ) → natAbs e ≤ 2 ^ 30 → leZ (guardOf (d .gains .kp) (d .gains .imax)) m ≡ true → leZ (d .gains .kp *ℤ e +ℤ limited q15 (d .gains .imax) x) m ≡ true
+  under-largest e x m h k =
+      through (d .gains .kp *ℤ e +ℤ limited q15 (d .gains .imax) x) (guardOf (d .gains .kp) (d .gains .imax)) m (under-guard e x h) k
+    where
+      through : (a b c : ℤ) → leZ a b ≡ true → leZ b c ≡ true → leZ a c ≡ true
+      through a b c h k = le-yes-in a c (omega (arith, le-yes a b h, le-yes b c k))
 
   next-fit : (t : List ℤ) (x p : ℤ) → SFits w16 p → fitQ15 (stepOf q15 t d x p .pll) ≡ true
   unfolding stepOf advancedBy

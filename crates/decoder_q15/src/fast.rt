@@ -1,12 +1,14 @@
 // The fast Q15 block (fallback/stereo.rs): the table sums in 32 bits, the integrator's product with
 // the cosine last, and the level's rounding without the stop that a fit level never reaches. The
-// correction's rounding stops at the largest i64, as the plain one does.
+// correction's rounding stops at the largest i64, as the plain one does, in a record whose gains let
+// it come there.
 use crate::parts::ReplyQ15;
 use crate::parts::StepQ15;
 use crate::parts::advanced;
 use crate::parts::block_answer;
 use crate::parts::full_table;
 use crate::parts::level_after;
+use crate::parts::scaled_sum;
 use answers::answer::is_accepted;
 use decoder_parts::in_q15::selected;
 use decoder_record::pll_q15::StereoPllQ15;
@@ -74,7 +76,14 @@ fn step(table: &[i16], d: StereoPllQ15, x: i16, p: i16) -> StepQ15
     let s = interp_q15(table, sine_at(d.phase));
     let s2 = interp_q15(table, sine_at_twice(d.phase));
     let level = level_next(d.beta, d.level, product(p, s));
-    let next = advanced(d, product(p, c), gathered(d.ki, p, c, d.integ), level);
+    let largest = scaled_sum(d.kp, 1073741824, d.imax);
+    let next = advanced(
+        d,
+        product(p, c),
+        gathered(d.ki, p, c, d.integ),
+        largest,
+        level,
+    );
     StepQ15 {
         next,
         difference: selected(next.stereo & next.enabled, demodulated(x, s2)),

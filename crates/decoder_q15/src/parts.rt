@@ -14,13 +14,13 @@ ghost use mathlib.Core.Bool.{true};
 ghost use mathlib.Core.List.{_∷_};
 ghost use Prim.Native.Nat.{_+_, _*_, _≤_, _<_, _^_};
 ghost use lib.IntN.{natAbs, _+ℤ_, _*ℤ_};
-ghost use lib.Signed.{nonNeg};
+ghost use lib.Signed.{nonNeg, leZ};
 ghost use lib.Dec.{T};
 ghost use Rattle.numbers.specs.Integers.{roundShiftOf};
 ghost use Rattle.answers.specs.Answer.{entries, says, rule, firstCause};
 ghost use Rattle.decoder_parts.specs.Rules.{decideQ15};
 ghost use Rattle.decoder.specs.Machine.{limited, advancedBy, lengthCauses};
-ghost use Rattle.decoder_record.specs.Fit.{levelFit, fitQ15};
+ghost use Rattle.decoder_record.specs.Fit.{levelFit, guardOf, fitQ15};
 ghost use Rattle.decoder_q15.specs.Q15.{q15, levelQ15};
 ghost use Rattle.decoder_record.specs.Records.{pllQ15};
 
@@ -70,14 +70,34 @@ pub(crate) fn level_after(beta: i64, level: i64, q: i64, rounded: i64) -> i64
     level + beta * (q - rounded)
 }
 
+// A sum rounded to 32 places, stopping at the largest i64. Where `largest`, which the sum does not
+// pass, leaves room for the half, nothing has to stop; as it is the same for each sample of a block,
+// the test does not lengthen a loop's chain.
+pub(crate) fn rounded(f: i64, largest: i64) -> i64
+    requires { ⌜ leZ f largest ≡ true ⌝ }
+    ensures { λ r. ⌜ r ≡ roundShiftOf f 32 ⌝ }
+{
+    if largest > 9223372034707292159 {
+        return round_shift(f, 32);
+    }
+    (f + 2147483648) >> 32
+}
+
 // The decoder after a sample whose error is e and whose level is `level`; `gathered` is the
-// integrator with the sample's part, before its limit.
-pub(crate) fn advanced(mut d: StereoPllQ15, e: i64, gathered: i64, level: i64) -> StereoPllQ15
-    requires { ⌜ fitQ15 (pllQ15 d) ≡ true ⌝ ∗ ⌜ natAbs e ≤ 2 ^ 30 ⌝ ∗ ⌜ gathered ≡ d .ki *ℤ e +ℤ d .integ ⌝ }
+// integrator with the sample's part, before its limit, and `largest` as in `rounded`.
+pub(crate) fn advanced(
+    mut d: StereoPllQ15,
+    e: i64,
+    gathered: i64,
+    largest: i64,
+    level: i64,
+) -> StereoPllQ15
+    requires { ⌜ fitQ15 (pllQ15 d) ≡ true ⌝ ∗ ⌜ natAbs e ≤ 2 ^ 30 ⌝
+        ∗ ⌜ gathered ≡ d .ki *ℤ e +ℤ d .integ ⌝ ∗ ⌜ leZ (guardOf (d .kp) (d .imax)) largest ≡ true ⌝ }
     ensures { λ r. ⌜ pllQ15 r ≡ advancedBy q15 (pllQ15 d) e level (decideQ15 level (d .on) (d .off) (d .stereo)) ⌝ }
 {
     let integ = within(d.imax, gathered);
-    let correction = low32(round_shift(scaled_sum(d.kp, e, integ), 32));
+    let correction = low32(rounded(scaled_sum(d.kp, e, integ), largest));
     d.phase = phase_after(d.phase, d.step0, correction);
     d.integ = integ;
     d.level = level;

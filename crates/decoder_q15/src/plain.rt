@@ -46,7 +46,7 @@ fn step(table: &[i16], d: StereoPllQ15, x: i16, p: i16) -> StepQ15
     let s2 = cos_q15(table, sine_at_twice(d.phase));
     let level = level_next(d.beta, d.level, q15_product(p, s));
     let e = q15_product(p, c);
-    let next = advanced(d, e, scaled_sum(d.ki, e, d.integ), level);
+    let next = advanced(d, e, scaled_sum(d.ki, e, d.integ), i64::MAX, level);
     StepQ15 {
         next,
         difference: selected(next.stereo & next.enabled, q15_mul(x, s2)),

@@ -23,7 +23,7 @@ returns c =
       lock = l .level-of .ensures ∙ rw (i .interp-f32-pair .ensures);
       decision = b .stereo-of .ensures;
       heard = m .demodulated .ensures ∙ rw (c2 .cos-f32 .ensures, c2 .before .sine-at-twice .ensures);
-      advanced = c .advanced .ensures ∙ advanced-is f32 (pllF32 (a .d)) (e .error-of .result) (l .level-of .result) (b .stereo-of .result) (w .within .ensures ∙ rw (g .accumulated .ensures)) (k .correction-checked .ensures) refl;
+      advanced = c .advanced .ensures ∙ advanced-is f32 (pllF32 (a .d)) (e .error-of .result) (l .level-of .result) (b .stereo-of .result) (w .within .ensures ∙ rw (g .accumulated .ensures)) (k .correction-fast .ensures) refl;
     } in
     step-is f32 (a .table .now) (pllF32 (a .d)) (a .x) (a .p) parts
 

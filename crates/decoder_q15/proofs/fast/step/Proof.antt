@@ -5,14 +5,18 @@ use lib.IntN.{ℤ, _*ℤ_}
 use mir.Syntax.{w16, w32, w64}
 use mir.Val.{toZ, ofZ}
 use mir.Facts.{toZ-ofZ}
-use Rattle.rounding.proofs.Lin.{back}
+use native.Mathlib.Omega.{arith}
+use lib.Signed.{leZ}
+use mathlib.Core.Bool.{true}
+use Rattle.rounding.proofs.Lin.{back, le-yes-in}
 use Rattle.phase.specs.Lookup.{sineAt, cosQ15}
 use Rattle.decoder_record.specs.State.{Pll}
 use Rattle.decoder_q15.specs.Q15.{levelQ15}
 use Rattle.decoder_record.specs.Records.{pllQ15}
+use Rattle.decoder_record.specs.Fit.{guardOf}
 use Rattle.decoder_record.proofs.Fit.{fitted, level-fit}
 use Rattle.decoder_record.proofs.Held.{Held, held}
-use Rattle.decoder_q15.proofs.Kept.{ki-room}
+use Rattle.decoder_q15.proofs.Kept.{ki-room, guard-room}
 use Rattle.decoder_q15.proofs.Samples.{step-q15-is, lookup-le, product-small}
 use Rattle.decoder_q15.proofs.fast.step.Statement.{statement}
 use Rattle.decoder_q15.proofs.fast.step.Tie as tie
@@ -22,6 +26,9 @@ T c = c .args .table .now
 
 abbrev D : tie.Start → Pll ℤ
 D c = pllQ15 (c .args .d)
+
+order-refl : (z : ℤ) → leZ z z ≡ true
+order-refl z = le-yes-in z z (omega arith)
 
 c-is : (c : tie.After-interp-q15) → toZ w32 (ofZ w32 (c .interp-q15 .result)) ≡ cosQ15 (T (c .before)) (D (c .before) .moving .phase)
 c-is c = back w32 (c .interp-q15 .result) (c .interp-q15 .ok) ∙ c .interp-q15 .ensures
@@ -45,9 +52,9 @@ level-is c =
     let k = c .before .before in
     back w64 (c .level-next .result) (c .level-next .ok) ∙ c .level-next .ensures ∙ rw (toZ-ofZ (known k .beta), toZ-ofZ (known k .level), q-is (k .before))
 
-e-is : (c : tie.After-product2) → let s = c .before .before .before .before .before .before .before .before .before .before in toZ w64 (ofZ w64 (c .product2 .result)) ≡ s .args .p *ℤ cosQ15 (T s) (D s .moving .phase)
+e-is : (c : tie.After-product2) → let s = c .before .before .before .before .before .before .before .before .before .before .before .before .before in toZ w64 (ofZ w64 (c .product2 .result)) ≡ s .args .p *ℤ cosQ15 (T s) (D s .moving .phase)
 e-is c =
-    let r = c .before .before .before .before .before .before .before .before .before in
+    let r = c .before .before .before .before .before .before .before .before .before .before .before .before in
     back w64 (c .product2 .result) (c .product2 .ok) ∙ c .product2 .ensures ∙ rw (toZ-ofZ (r .before .fits .p), c-is r)
 
 product-requires : tie.Need-product-requires
@@ -62,29 +69,49 @@ level-next-requires c κs =
     let s = k .before .before .before .before .before .before .before in
     (rw (toZ-ofZ (known k .beta), toZ-ofZ (known k .level)) (level-fit (D s) (s .pre)), product-small (T s) (s .args .p) (sineAt 1 (D s .moving .phase)) (s .fits .p) (q-is (k .before)))
 
+scaled-sum-requires : tie.Need-scaled-sum-requires
+scaled-sum-requires c κs =
+    let k = known (c .before .before .before .before) in
+    let s = c .before .before .before .before .before .before .before .before .before .before .before in
+    rw (toZ-ofZ (k .kp), toZ-ofZ (k .imax)) (omega arith, guard-room (D s) (s .pre))
+
 product-requires-2 : tie.Need-product-requires-2
 product-requires-2 c κs =
-    let r = c .before .before .before .before .before .before .before .before in
+    let r = c .before .before .before .before .before .before .before .before .before .before .before in
     lookup-le (T (r .before)) (D (r .before) .moving .phase) (c-is r)
 
 gathered-requires : tie.Need-gathered-requires
 gathered-requires c κs =
-    let k = known (c .before .before .before .before .before) in
-    let r = c .before .before .before .before .before .before .before .before .before .before .before in
+    let k = known (c .before .before .before .before .before .before .before .before) in
+    let r = c .before .before .before .before .before .before .before .before .before .before .before .before .before .before in
     let s = r .before in
     (lookup-le (T s) (D s .moving .phase) (c-is r), rw (toZ-ofZ (k .ki), toZ-ofZ (k .integ)) (fitted (D s) (s .pre) .ki, ki-room (D s) (s .pre)))
+
+-- the largest sum
+largest-is : (c : tie.After-scaled-sum) → let s = c .before .before .before .before .before .before .before .before .before .before .before .before in toZ w64 (ofZ w64 (c .scaled-sum .result)) ≡ guardOf (D s .gains .kp) (D s .gains .imax)
+largest-is c =
+    let k = known (c .before .before .before .before .before) in
+    back w64 (c .scaled-sum .result) (c .scaled-sum .ok) ∙ c .scaled-sum .ensures ∙ rw (toZ-ofZ (k .kp), toZ-ofZ (k .imax))
 
 advanced-requires : tie.Need-advanced-requires
 advanced-requires c κs =
     let e = c .before .before .before in
-    let k = known (c .before .before .before .before .before .before) in
-    let r = c .before .before .before .before .before .before .before .before .before .before .before .before in
-    let s = r .before in
-    (s .pre, (product-small (T s) (s .args .p) (D s .moving .phase) (s .fits .p) (e-is e), back w64 (c .gathered .result) (c .gathered .ok) ∙ c .gathered .ensures ∙ rw (toZ-ofZ (k .ki), toZ-ofZ (s .fits .p), c-is r, toZ-ofZ (k .integ), e-is e)))
+    let k = known (c .before .before .before .before .before .before .before .before .before) in
+    let r = c .before .before .before .before .before .before .before .before .before .before .before .before .before .before .before in
+    let s = r .before in (
+      s .pre,
+      (
+        product-small (T s) (s .args .p) (D s .moving .phase) (s .fits .p) (e-is e),
+        (
+          back w64 (c .gathered .result) (c .gathered .ok) ∙ c .gathered .ensures ∙ rw (toZ-ofZ (k .ki), toZ-ofZ (s .fits .p), c-is r, toZ-ofZ (k .integ), e-is e),
+          rw (largest-is (e .before)) (order-refl (guardOf (D s .gains .kp) (D s .gains .imax))),
+        ),
+      ),
+    )
 
 demodulated-requires : tie.Need-demodulated-requires
 demodulated-requires c κs =
-    let r = c .before .before .before .before .before .before .before .before .before .before in
+    let r = c .before .before .before .before .before .before .before .before .before .before .before .before .before in
     let s = r .before .before .before .before .before in
     lookup-le (T s) (sineAt 2 (D s .moving .phase)) (s2-is r)
 
@@ -93,7 +120,7 @@ returns c =
     let m = c .before in
     let a = m .before .before in
     let e = a .before .before .before .before in
-    let l = e .before in
+    let l = e .before .before .before .before in
     let r = l .before .before .before .before in
     let s = r .before .before .before .before .before in
     rw (back w16 (c .selected .result) (c .selected .ok))
@@ -112,6 +139,7 @@ step-spec =
     (λ c κs. search needs)
     product-requires
     level-next-requires
+    scaled-sum-requires
     product-requires-2
     gathered-requires
     advanced-requires

@@ -12,7 +12,7 @@ use Rattle.decoder_q15.specs.Q15.{levelQ15}
 use Rattle.decoder_record.specs.Records.{pllQ15}
 use Rattle.decoder_record.proofs.Fit.{level-fit}
 use Rattle.decoder_record.proofs.Held.{Held, held}
-use Rattle.decoder_q15.proofs.Kept.{ki-room}
+use Rattle.decoder_q15.proofs.Kept.{ki-room, guard-below}
 use Rattle.decoder_q15.proofs.Samples.{step-q15-is, product-small}
 use Rattle.decoder_q15.proofs.plain.step.Statement.{statement}
 use Rattle.decoder_q15.proofs.plain.step.Tie as tie
@@ -68,7 +68,7 @@ advanced-requires c κs =
     let e = c .before .before .before in
     let k = known (c .before .before .before .before .before .before) in
     let s = c .before .before .before .before .before .before .before .before .before .before .before .before .before in
-    (s .pre, (product-small (T s) (s .args .p) (D s .moving .phase) (s .fits .p) (e-is e), back w64 (c .scaled-sum .result) (c .scaled-sum .ok) ∙ c .scaled-sum .ensures ∙ rw (toZ-ofZ (k .ki), toZ-ofZ (k .integ))))
+    (s .pre, (product-small (T s) (s .args .p) (D s .moving .phase) (s .fits .p) (e-is e), (back w64 (c .scaled-sum .result) (c .scaled-sum .ok) ∙ c .scaled-sum .ensures ∙ rw (toZ-ofZ (k .ki), toZ-ofZ (k .integ)), guard-below (D s) (s .pre))))
 
 returns : tie.Need-returns
 returns c =
