@@ -8,14 +8,13 @@ use crate::parts::advanced;
 use crate::parts::full_table;
 use answers::answer::is_accepted;
 use decoder_parts::finite::scan;
-use decoder_parts::in_f32::accumulated;
 use decoder_parts::in_f32::decided;
 use decoder_parts::in_f32::demodulated;
 use decoder_parts::in_f32::error_of;
+use decoder_parts::in_f32::integrated;
 use decoder_parts::in_f32::level_next;
 use decoder_parts::in_f32::level_of;
 use decoder_parts::in_f32::stereo_of;
-use decoder_parts::in_f32::within;
 use decoder_record::pll_f32::StereoPllF32;
 use phase::correction::Quick;
 use phase::correction::correction_fast;
@@ -58,7 +57,7 @@ fn step_checked(table: &[f32], d: StereoPllF32, x: f32, p: f32) -> StepF32
     let level = level_of(p, k.s, d.beta, d.level);
     let stereo = stereo_of(p, level, d.on, d.off, d.stereo);
     let difference = demodulated(stereo & d.enabled, x, s2);
-    let integ = within(d.imax, accumulated(d.integ, d.ki, e));
+    let integ = integrated(d.imax, d.integ, d.ki, e);
     let correction = correction_fast(d.kp * e + integ);
     StepF32 {
         next: advanced(d, correction, integ, level, stereo),
@@ -78,7 +77,7 @@ fn step_clean(table: &[f32], d: StereoPllF32, x: f32, p: f32) -> StepF32
     let level = level_next(d.beta, d.level, p * k.s);
     let stereo = decided(level, d.on, d.off, d.stereo);
     let difference = demodulated(stereo & d.enabled, x, s2);
-    let integ = within(d.imax, accumulated(d.integ, d.ki, e));
+    let integ = integrated(d.imax, d.integ, d.ki, e);
     let correction = correction_clean(d.kp * e + integ);
     StepF32 {
         next: advanced(d, correction, integ, level, stereo),

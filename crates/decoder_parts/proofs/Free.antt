@@ -7,6 +7,7 @@ use Rattle.decoder_parts.proofs.in_f32.level_next.Reads as level-next
 use Rattle.decoder_parts.proofs.in_f32.decided.Reads as in-f32-decided
 use Rattle.decoder_parts.proofs.in_f32.accumulated.Reads as accumulated
 use Rattle.decoder_parts.proofs.in_f32.within.Reads as within
+use Rattle.decoder_parts.proofs.in_f32.integrated.Reads as integrated
 use Rattle.decoder_parts.proofs.in_f32.demodulated.Reads as demodulated
 use Rattle.decoder_parts.proofs.in_f32.error_of.Reads as error-of
 use Rattle.decoder_parts.proofs.in_f32.level_of.Reads as level-of
@@ -21,10 +22,11 @@ pub nothing-asked :
     × (in-f32-decided.Asked ≡ λ κs a. Unit {0})
     × (accumulated.Asked ≡ λ κs a. Unit {0})
     × (within.Asked ≡ λ κs a. Unit {0})
+    × (integrated.Asked ≡ λ κs a. Unit {0})
     × (demodulated.Asked ≡ λ κs a. Unit {0})
     × (error-of.Asked ≡ λ κs a. Unit {0})
     × (level-of.Asked ≡ λ κs a. Unit {0})
     × (stereo-of.Asked ≡ λ κs a. Unit {0})
     × (in-q15-decided.Asked ≡ λ κs a. Unit {0})
     × (selected.Asked ≡ λ κs a. Unit {0})
-nothing-asked = (refl, refl, refl, refl, refl, refl, refl, refl, refl, refl, refl, refl)
+nothing-asked = (refl, refl, refl, refl, refl, refl, refl, refl, refl, refl, refl, refl, refl)

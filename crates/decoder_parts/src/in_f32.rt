@@ -44,6 +44,20 @@ pub fn within(imax: f32, x: f32) -> f32
     if y < -imax { -imax } else { y }
 }
 
+// The integrator after a sample, within its limit. A sum that is neither small nor beyond the limit
+// is the integrator itself; by a jump, so that a loop's chain has no part of the flush and the limits.
+pub fn integrated(imax: f32, integ: f32, ki: f32, e: f32) -> f32
+    ensures { λ r. ⌜ r ≡ limitedF32 imax (accumulateF32 integ ki e) ⌝ }
+{
+    let x = integ + ki * e;
+    let small = (x < 1e-30) & (x > -1e-30);
+    let beyond = (x > imax) | (x < -imax);
+    if small | beyond {
+        return within(imax, accumulated(integ, ki, e));
+    }
+    x
+}
+
 pub fn demodulated(on: bool, x: f32, s2: f32) -> f32
     ensures { λ r. ⌜ r ≡ demodulatedF32 on x s2 ⌝ }
 {

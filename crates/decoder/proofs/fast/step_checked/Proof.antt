@@ -10,8 +10,7 @@ returns : tie.Need-returns
 returns c =
     let k = c .before in
     let w = k .before .before in
-    let g = w .before in
-    let m = g .before in
+    let m = w .before in
     let b = m .before .before in
     let l = b .before in
     let e = l .before in
@@ -23,7 +22,7 @@ returns c =
       lock = l .level-of .ensures ∙ rw (i .interp-f32-pair .ensures);
       decision = b .stereo-of .ensures;
       heard = m .demodulated .ensures ∙ rw (c2 .cos-f32 .ensures, c2 .before .sine-at-twice .ensures);
-      advanced = c .advanced .ensures ∙ advanced-is f32 (pllF32 (a .d)) (e .error-of .result) (l .level-of .result) (b .stereo-of .result) (w .within .ensures ∙ rw (g .accumulated .ensures)) (k .correction-fast .ensures) refl;
+      advanced = c .advanced .ensures ∙ advanced-is f32 (pllF32 (a .d)) (e .error-of .result) (l .level-of .result) (b .stereo-of .result) (w .integrated .ensures) (k .correction-fast .ensures) refl;
     } in
     step-is f32 (a .table .now) (pllF32 (a .d)) (a .x) (a .p) parts
 
@@ -31,7 +30,6 @@ pub step-checked-spec : {M : Type 1} → statement M
 step-checked-spec =
     tie.close
     (tie.spec
-    (λ c κs. search needs)
     (λ c κs. search needs)
     (λ c κs. search needs)
     (λ c κs. search needs)

@@ -11,8 +11,7 @@ returns : tie.Need-returns
 returns c =
     let k = c .before in
     let w = k .before .before in
-    let g = w .before in
-    let m = g .before in
+    let m = w .before in
     let b = m .before .before in
     let l = b .before in
     let c2 = l .before .before .before in
@@ -25,7 +24,7 @@ returns c =
       lock = l .level-next .ensures ∙ rw (s .pre, i .interp-f32-pair .ensures);
       decision = b .decided .ensures ∙ rw (s .pre);
       heard = m .demodulated .ensures ∙ rw (c2 .cos-f32 .ensures, c2 .before .sine-at-twice .ensures);
-      advanced = c .advanced .ensures ∙ advanced-is f32 (pllF32 (a .d)) e (l .level-next .result) (b .decided .result) (w .within .ensures ∙ rw (g .accumulated .ensures)) (k .correction-clean .ensures) refl;
+      advanced = c .advanced .ensures ∙ advanced-is f32 (pllF32 (a .d)) e (l .level-next .result) (b .decided .result) (w .integrated .ensures) (k .correction-clean .ensures) refl;
     } in
     step-is f32 (a .table .now) (pllF32 (a .d)) (a .x) (a .p) parts
 
@@ -33,7 +32,6 @@ pub step-clean-spec : {M : Type 1} → statement M
 step-clean-spec =
     tie.close
     (tie.spec
-    (λ c κs. search needs)
     (λ c κs. search needs)
     (λ c κs. search needs)
     (λ c κs. search needs)
