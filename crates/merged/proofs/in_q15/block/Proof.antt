@@ -13,9 +13,6 @@ turned c = c .before .before .before .before
 abbrev taken : tie.Else1 → tie.After-block
 taken c = c .before .before .before .before
 
-returns : tie.Need-returns
-returns c = refused q15 _ _ _ _ _ _ filledQ15 (turned c .block .ensures) (failed (c .before .is-accepted .ensures) (c .if1 .taken))
-
 matrix-in-place-requires : tie.Need-matrix-in-place-requires
 matrix-in-place-requires c κs =
     let e = c .before .before in
@@ -27,6 +24,9 @@ returns-2 c =
     let m = c .before .before in
     let e = m .before .before .before in
     carried-out q15 _ _ _ _ _ _ filledQ15 (taken e .block .ensures) (passed (e .before .is-accepted .ensures) (e .if1 .left)) (m .matrix-in-place .ensures)
+
+returns : tie.Need-returns
+returns c = refused q15 _ _ _ _ _ _ filledQ15 (turned c .block .ensures) (failed (c .before .is-accepted .ensures) (c .if1 .taken))
 
 pub block-spec : {M : Type 1} → statement M
 block-spec =
