@@ -1,2 +1,3 @@
-// What the blocks of all loops share: their answers and the rule of the lengths.
+// What all calls share: their answers, the rule of the lengths, and C's switches.
 pub mod answer;
+pub mod switch;

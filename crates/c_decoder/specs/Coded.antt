@@ -1,12 +1,10 @@
 -- A decoder's record in C, over the format, and what the calls give. Definitions only.
 use Prim.Native.Nat.{ℕ}
-use mathlib.Core.Bool.{Bool, cond, not}
 use mathlib.Core.List.{List}
-use lib.Dec.{eqb}
 use lib.IntN.{ℤ}
 use lib.Ieee.{Float}
 use Rattle.answers.specs.Answer.{codeOf, Built, mapBuilt}
-use Rattle.answers.specs.Coded.{Coded, codedNew}
+use Rattle.answers.specs.Coded.{onAt, switchOf, Coded, codedNew}
 use Rattle.answers.specs.declared.answer.Code.{Code}
 use Rattle.decoder_record.specs.State.{Pll}
 use Rattle.decoder_record.specs.Fresh.{fraction}
@@ -15,13 +13,6 @@ use Rattle.matrix.specs.Matrix.{Matrixed}
 use Rattle.c_decoder.specs.declared.shared.Readout.{Readout}
 use Rattle.c_decoder.specs.declared.in_f32.DecoderF32.{DecoderF32}
 use Rattle.c_decoder.specs.declared.in_q15.DecoderQ15.{DecoderQ15}
-
--- ---- switches: on at any number but 0, and on is given back as 1
-abbrev pub onAt : ℕ → Bool
-onAt x = not (eqb x 0)
-
-abbrev pub switchOf : Bool → ℕ
-switchOf b = cond b 1 0
 
 -- ---- the record: the fields in C's order
 pub record Decoder (A : Type 0) : Type 0 where

@@ -1,9 +1,9 @@
 // The f32 decoder.
 use crate::shared::Readout;
-use crate::shared::is_on;
-use crate::shared::switch_of;
 use answers::answer::Code;
 use answers::answer::code_of;
+use answers::switch::is_on;
+use answers::switch::switch_of;
 use decoder_record::pll_f32::NewF32;
 use decoder_record::pll_f32::StereoPllF32;
 ghost use mathlib.Core.Path.{_≡_};

@@ -1,9 +1,9 @@
 // The Q15 decoder.
 use crate::shared::Readout;
-use crate::shared::is_on;
-use crate::shared::switch_of;
 use answers::answer::Code;
 use answers::answer::code_of;
+use answers::switch::is_on;
+use answers::switch::switch_of;
 use decoder_record::pll_q15::NewQ15;
 use decoder_record::pll_q15::StereoPllQ15;
 ghost use mathlib.Core.Path.{_≡_};
