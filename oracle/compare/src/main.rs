@@ -1,4 +1,5 @@
-//! Compares our static libraries with the original and with std, input by input.
+//! Compares our static libraries with the original, with std and, where the original has nothing,
+//! with a model, input by input.
 //!
 //!     compare               all that follows but `every`
 //!     compare numbers [N]   for each number helper the boundaries, N random inputs and, of a
@@ -6,6 +7,8 @@
 //!     compare stereo [N]    lookup, correction, oscillator, matrix, encoders and verdict, and N
 //!                           sessions of each record (20000)
 //!     compare decoder [N]   the decoder: constructions, and N sessions of each kind (20000)
+//!     compare rds [N]       every block of 26 bits, and N sessions of each kind of the group
+//!                           former (200000)
 //!     compare every         every input of each function whose arguments have 32 bits in all
 //!     compare every-stereo  every f32 of the corrections, every pair of the Q15 matrix
 
@@ -13,6 +16,7 @@ mod decoder;
 mod encoder;
 mod numbers;
 mod part;
+mod rds;
 mod record;
 mod sessions;
 mod stereo;
@@ -127,7 +131,9 @@ fn helpers(compare: impl Fn(&'static Function) -> bool) -> bool {
 }
 
 fn usage() -> ! {
-    eprintln!("usage: compare [numbers [N] | stereo [N] | decoder [N] | every | every-stereo]");
+    eprintln!(
+        "usage: compare [numbers [N] | stereo [N] | decoder [N] | rds [N] | every | every-stereo]"
+    );
     std::process::exit(2);
 }
 
@@ -142,11 +148,13 @@ fn main() {
     let some = |f| compare_some(f, count.unwrap_or(4_000_000));
     let stereo = || stereo::compare(count.unwrap_or(20_000));
     let decoder = || decoder::compare(count.unwrap_or(20_000));
+    let rds = || rds::compare(count.unwrap_or(200_000));
     let equal = match what.as_deref() {
-        None => helpers(some) & stereo() & decoder(),
+        None => helpers(some) & stereo() & decoder() & rds(),
         Some("numbers") => helpers(some),
         Some("stereo") => stereo(),
         Some("decoder") => decoder(),
+        Some("rds") => rds(),
         Some("every") => helpers(compare_every),
         Some("every-stereo") => stereo::every_correction() & stereo::every_matrix_q15(),
         Some(_) => usage(),

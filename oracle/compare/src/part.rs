@@ -20,6 +20,8 @@ pub struct Part {
     pub alone: u64,
     // decoder blocks in which the two originals differ, where the plain one's rounding stops
     pub stopped: u64,
+    // groups of version B that were accepted
+    pub version_b: u64,
     // how many of our answers are a refusal, by its number
     refused: BTreeMap<u64, u64>,
     differences: u64,
@@ -35,6 +37,7 @@ impl Part {
             stereo: 0,
             alone: 0,
             stopped: 0,
+            version_b: 0,
             refused: BTreeMap::new(),
             differences: 0,
         }
@@ -111,6 +114,9 @@ impl Part {
         }
         if self.stopped > 0 {
             print!(", {} where Fallback does not stop", self.stopped);
+        }
+        if self.version_b > 0 {
+            print!(", {} accepted of version B", self.version_b);
         }
         println!(", {} differences", self.differences);
         self.differences == 0

@@ -8,11 +8,10 @@ use pescrondilu_sys::encoder::{
 use sdrk_core::kernels::mix;
 use sdrk_core::probe;
 use stereo_oracle::answers::{self, Arguments, Block, Encoder, SIDES, TABLE};
-use stereo_oracle::inputs::{Inputs, Limits, limits};
+use stereo_oracle::inputs::{Inputs, Limits, limits, one};
 
 use crate::encoder::{self, Call, Ours, Session};
 use crate::part::Part;
-use crate::stereo::one;
 
 /// Calls of a session.
 fn calls(r: &mut Inputs) -> u64 {

@@ -7,7 +7,7 @@ use pescrondilu_sys::encoder::{
 };
 use pescrondilu_sys::numbers::{self, pescrondilu_correction_fast, pescrondilu_correction_plain};
 use stereo_oracle::answers::{self, Arguments, Block, Encoder, SIDES, TABLE};
-use stereo_oracle::inputs::{Inputs, Limits, corrections, limits};
+use stereo_oracle::inputs::{Inputs, Limits, corrections, limits, one};
 
 use crate::encoder;
 use crate::part::Part;
@@ -158,11 +158,6 @@ fn oscillator() -> bool {
         });
     }
     inc.report() & on.report()
-}
-
-/// Any of a list.
-pub fn one<T: Copy>(r: &mut Inputs, list: &[T]) -> T {
-    list[r.below(list.len() as u64) as usize]
 }
 
 fn construction() -> bool {

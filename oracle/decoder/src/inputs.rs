@@ -5,14 +5,9 @@ use std::f64::consts::TAU;
 use sdrk_core::probe::Fields;
 use sdrk_core::types::Q15;
 use stereo_oracle::answers::TABLE;
-use stereo_oracle::inputs::Inputs;
+use stereo_oracle::inputs::{Inputs, one};
 
 use crate::answers::{Arguments, Block, Call, Format};
-
-/// Any of a list.
-pub fn one<T: Copy>(r: &mut Inputs, list: &[T]) -> T {
-    list[r.below(list.len() as u64) as usize]
-}
 
 /// From 0 to 1.
 fn unit(r: &mut Inputs) -> f64 {

@@ -6,7 +6,7 @@
 use std::fmt::Write;
 
 use decoder_oracle::answers::{self, Arguments, Block, Call, Outcome, field_words};
-use decoder_oracle::inputs::{self, Drawn, one};
+use decoder_oracle::inputs::{self, Drawn};
 use decoder_oracle::samples::{ANY, CALM, Made, ONE, SINE, TRIANGLE, filled};
 use numbers_oracle::answers::word_f32;
 use sdrk_core::kernels::stereo::StereoPllState;
@@ -15,7 +15,7 @@ use sdrk_core::probe::{self, Fields};
 use sdrk_core::tables::{COS_F32, COS_Q15};
 use sdrk_core::types::Q15;
 use stereo_oracle::answers::{Side, TABLE};
-use stereo_oracle::inputs::Inputs;
+use stereo_oracle::inputs::{Inputs, one};
 
 const QUARTER: u32 = 1 << 30;
 

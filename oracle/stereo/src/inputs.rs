@@ -125,6 +125,11 @@ impl Inputs {
     }
 }
 
+/// Any of a list.
+pub fn one<T: Copy>(r: &mut Inputs, list: &[T]) -> T {
+    list[r.below(list.len() as u64) as usize]
+}
+
 /// The f32 from two below to two above one, and their negatives.
 fn around_f32(x: f32) -> Vec<f32> {
     let b = x.to_bits();
