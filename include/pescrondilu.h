@@ -1,6 +1,7 @@
 /*
  * The proved FM stereo core: pilot loop with stereo decision, matrix, multiplex encoders,
- * oscillator and on-air verdict, in libpescrondilu.a. x86-64 Linux, System V calls; C99 or C++.
+ * oscillator, on-air verdict and RDS group former, in libpescrondilu.a. x86-64 Linux, System V
+ * calls; C99 or C++.
  *
  *     cc program.c -Iinclude -Ltarget/staticlib -lpescrondilu -lm
  *
@@ -17,14 +18,14 @@
  *
  * What the caller gets
  *   - Every call ends. Nothing is allocated, locked, or kept from one call to the next: all that a
- *     decoder or an encoder remembers is in its record, which the caller holds.
+ *     decoder, an encoder or a group former remembers is in its record, which the caller holds.
  *   - Records go in and out by value. A call changes no record that it is handed; the next one
  *     comes back: d = pescrondilu_f32_reset(d);
  *   - Calls on different records may run on different threads, with one table for all of them.
  *   - Any bits are taken in records, parameters, tables and samples, NaN and infinities included.
  *     A NaN that comes back may have other bits than the one that went in.
- *   - A switch (stereo, enabled) is a uint32_t, off at 0 and on at anything else. It comes back
- *     as 0 or 1.
+ *   - A switch (stereo, enabled, carried) is a uint32_t, off at 0 and on at anything else. It
+ *     comes back as 0 or 1.
  *   - A record's read-outs are its fields. The read call gives a decoder's in the same units for
  *     both formats.
  *
@@ -45,7 +46,7 @@
  *    8   108   Q15 decoder: ki or beta becomes 0
  *    9   109   the table's length is not PESCRONDILU_TABLE_LENGTH
  *   10   110   a further input's length differs from the first input's
- *   11   111   an output's length differs from the first input's
+ *   11   111   an output's length differs from the first input's; a group's: from 104
  *   12   112   encoder: the pilot frequency is not in 18000 to 20000 Hz
  *   13   113   encoder: the main gain is not in 0 to 1
  *   14   114   encoder: the pilot amplitude is not in 0 to 0.2
@@ -53,9 +54,10 @@
  *   16   116   encoder: the RDS level is not in 0 to 0.2
  *   17   117   oscillator: frequency / rate is not finite
  *   18   118   the value is outside Q14
+ *   19   119   group: word three differs from word one, and bit 11 of word two is set
  *
- *   What is left: a refused block gives its record back as it was (the switches as 0 or 1) and
- *   writes to no output. A refused set call gives the record back as it was. A refused
+ *   What is left: a refused block or group gives its record back as it was (the switches as 0 or
+ *   1) and writes to no output. A refused set call gives the record back as it was. A refused
  *   construction gives zeros.
  */
 #ifndef PESCRONDILU_H
@@ -82,12 +84,15 @@ extern "C" {
 /* A code of 0 is accepted; this plus the number of the cause is refused. */
 #define PESCRONDILU_REFUSED 100
 
+/* The bits of an RDS group: four blocks, each of 16 bits of a word and 10 of its check. */
+#define PESCRONDILU_RDS_GROUP_BITS 104
+
 /* A phase is a uint32_t, one turn being 2^32. This is a quarter of a turn. */
 #define PESCRONDILU_QUARTER_TURN UINT32_C(1073741824)
 
 /*
- * What a block answers. At the causes 9, 10 and 11 expected is the length that was asked for and
- * got the one that was given; otherwise both are 0.
+ * What a block or a group answers. At the causes 9, 10 and 11 expected is the length that was asked
+ * for and got the one that was given; otherwise both are 0.
  */
 typedef struct pescrondilu_answer {
     uint32_t code;
@@ -272,7 +277,7 @@ pescrondilu_answer pescrondilu_matrix_q15(const int16_t *sum, size_t sum_n,
  */
 uint32_t pescrondilu_on_air(double frequency, float amplitude);
 
-/* ---- What an exciter calls: oscillator, encoders; and the verdict above ---------------------- */
+/* ---- What an exciter calls: oscillator, encoders, group former; and the verdict above -------- */
 
 /* An oscillator: the phase before the next sample, and what each sample adds to it. */
 typedef struct pescrondilu_nco {
@@ -399,6 +404,47 @@ pescrondilu_encode_rds_reply pescrondilu_encode_rds_block(
     pescrondilu_encode_rds e, const float *table, size_t table_n, const float *left, size_t left_n,
     const float *right, size_t right_n, const float *rds, size_t rds_n,
     float *PESCRONDILU_RESTRICT output, size_t output_n);
+
+/* The four words of an RDS group. */
+typedef struct pescrondilu_rds_words {
+    uint16_t one;
+    uint16_t two;
+    uint16_t three;
+    uint16_t four;
+} pescrondilu_rds_words;
+
+/* The group former: carried is the last output bit, with which the next group goes on. */
+typedef struct pescrondilu_rds_former {
+    uint32_t carried;
+} pescrondilu_rds_former;
+
+/* What a group answers, and the former after it. */
+typedef struct pescrondilu_rds_reply {
+    pescrondilu_answer answer;
+    pescrondilu_rds_former former;
+} pescrondilu_rds_reply;
+
+/*
+ * What the generator z^10 + z^8 + z^7 + z^5 + z^4 + z^3 + 1 of IEC 62106 leaves of a number, bit k
+ * being the coefficient of z^k. Of a word times 1024 it leaves the word's check, and of a block of
+ * 26 bits that was received without a wrong bit its offset word. Never refused.
+ */
+uint32_t pescrondilu_rds_remainder(uint32_t number);
+
+/* A new former: the output bit before the first is 0. Never refused. */
+pescrondilu_rds_former pescrondilu_rds_former_new(void);
+
+/*
+ * Forms a group. A block is a word, and after it the word's check exclusive-or an offset word: A,
+ * B, C and D in this order, and C' in the place of C where bit 11 of word two is set (bit 0 is the
+ * lowest). With C' word three has to be word one again. The PESCRONDILU_RDS_GROUP_BITS bits, the
+ * highest of each block first, go to output as bytes of 0 or 1, each exclusive-or the output bit
+ * before it. Causes 11, 19.
+ */
+pescrondilu_rds_reply pescrondilu_rds_group(pescrondilu_rds_former former,
+                                            pescrondilu_rds_words words,
+                                            uint8_t *PESCRONDILU_RESTRICT output,
+                                            size_t output_n);
 
 /* ---- Number helpers: what the calls above are made of, for comparison with the original ------ */
 

@@ -108,6 +108,19 @@ SIZE(pescrondilu_encode_rds_reply, 48);
 FIELD(pescrondilu_encode_rds_reply, answer, 0);
 FIELD(pescrondilu_encode_rds_reply, encoder, 24);
 
+SIZE(pescrondilu_rds_words, 8);
+FIELD(pescrondilu_rds_words, one, 0);
+FIELD(pescrondilu_rds_words, two, 2);
+FIELD(pescrondilu_rds_words, three, 4);
+FIELD(pescrondilu_rds_words, four, 6);
+
+SIZE(pescrondilu_rds_former, 4);
+FIELD(pescrondilu_rds_former, carried, 0);
+
+SIZE(pescrondilu_rds_reply, 32);
+FIELD(pescrondilu_rds_reply, answer, 0);
+FIELD(pescrondilu_rds_reply, former, 24);
+
 SIZE(pescrondilu_pair, 8);
 FIELD(pescrondilu_pair, c, 0);
 FIELD(pescrondilu_pair, s, 4);

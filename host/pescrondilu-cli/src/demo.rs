@@ -104,7 +104,7 @@ fn encoded(pilot: f32, left: &[f32], right: &[f32]) -> Outcome<Vec<f32>> {
         preemphasis: Some(50e-6),
     };
     let mut transmitter =
-        Transmitter::new(settings).map_err(|why| Fault::failed("the demo", why))?;
+        Transmitter::new(settings, None).map_err(|why| Fault::failed("the demo", why))?;
     let mut mpx = Vec::with_capacity((SECONDS * RATE) as usize);
     transmitter.run(left, right, &mut mpx)?;
     transmitter.finish(&mut mpx)?;

@@ -3,6 +3,7 @@
 use crate::args::Args;
 use crate::draft::same_file;
 use crate::fault::{Fault, Outcome};
+use crate::rds::{Groups, Rds};
 use crate::say::{Progress, Stream, say};
 use crate::source::{self, Source};
 use crate::transmitter::{HIGHEST_RATE, Settings, Transmitter};
@@ -18,9 +19,11 @@ struct Order {
     main: f32,
     pilot: f32,
     preemphasis: Option<f64>,
+    /// The file of groups, and the level.
+    rds: Option<(String, f32)>,
 }
 
-const OPTIONS: [&str; 7] = [
+const OPTIONS: [&str; 9] = [
     "-o",
     "--output",
     "--samples",
@@ -28,7 +31,12 @@ const OPTIONS: [&str; 7] = [
     "--main",
     "--pilot",
     "--preemphasis",
+    "--rds",
+    "--rds-level",
 ];
+/// The level of RDS if none is named. IEC 62106 has a deviation of 1.0 to 7.5 kHz, which is 0.013
+/// to 0.1 of 75 kHz, and recommends 2.0 kHz. This is 2.25 kHz.
+const RDS_LEVEL: f64 = 0.03;
 /// Audio samples that are read at a time.
 const PIECE: usize = 1 << 12;
 
@@ -45,7 +53,9 @@ impl Order {
         let output = output
             .ok_or_else(|| Fault::usage("encode wants -o FILE"))?
             .to_string();
-        if let Some(input) = inputs.iter().find(|input| same_file(input, &output)) {
+        let rds = rds_of(&args)?;
+        let mut read = inputs.iter().chain(rds.iter().map(|(name, _)| name));
+        if let Some(input) = read.find(|input| same_file(input, &output)) {
             return Err(Fault::usage(format!("{input} would be written over")));
         }
         let rate = args.within("--rate", 192_000.0, 120_000.0..=f64::from(HIGHEST_RATE))?;
@@ -63,7 +73,26 @@ impl Order {
             main: args.within("--main", 0.9, 0.0..=1.0)? as f32,
             pilot: args.within("--pilot", 0.09, 0.0..=0.2)? as f32,
             preemphasis: args.choice("--preemphasis", &preemphasis)?,
+            rds,
         })
+    }
+
+    /// Reads the file of groups.
+    fn rds(&self) -> Outcome<Option<Rds>> {
+        let Some((name, level)) = &self.rds else {
+            return Ok(None);
+        };
+        let (groups, level) = (Groups::read(name)?, *level);
+        Ok(Some(Rds { groups, level }))
+    }
+}
+
+fn rds_of(args: &Args) -> Outcome<Option<(String, f32)>> {
+    let level = args.within("--rds-level", RDS_LEVEL, 0.0..=0.2)? as f32;
+    match args.text("--rds") {
+        Some(name) => Ok(Some((name.to_string(), level))),
+        None if args.text("--rds-level").is_some() => Err(Fault::usage("--rds-level wants --rds")),
+        None => Ok(None),
     }
 }
 
@@ -156,6 +185,7 @@ impl Meter {
 
 pub fn command(words: &[String]) -> Outcome<()> {
     let order = Order::parse(words)?;
+    let rds = order.rds()?;
     let mut programme = Programme::open(&order.inputs)?;
     let name = programme.sources[0].name().to_string();
     let Order {
@@ -166,14 +196,15 @@ pub fn command(words: &[String]) -> Outcome<()> {
         ..
     } = order;
     let audio_rate = programme.rate;
-    let mut transmitter = Transmitter::new(Settings {
+    let settings = Settings {
         audio_rate,
         rate,
         main,
         pilot,
         preemphasis,
-    })
-    .map_err(|why| Fault::failed(&name, why))?;
+    };
+    let mut transmitter =
+        Transmitter::new(settings, rds.as_ref()).map_err(|why| Fault::failed(&name, why))?;
     let shape = Shape {
         samples: order.samples,
         channels: 1,
@@ -191,7 +222,8 @@ pub fn command(words: &[String]) -> Outcome<()> {
     } else {
         Stream::Output
     };
-    say(stream, &report(&order, &programme, &meter))
+    let rds = rds.map(|rds| rds.words(transmitter.groups_sent()));
+    say(stream, &report(&order, &programme, &meter, rds))
 }
 
 fn transmit(
@@ -219,7 +251,7 @@ fn transmit(
     }
 }
 
-fn report(order: &Order, programme: &Programme, meter: &Meter) -> String {
+fn report(order: &Order, programme: &Programme, meter: &Meter, rds: Option<String>) -> String {
     let name = if order.output == "-" {
         "standard output, raw"
     } else {
@@ -237,6 +269,9 @@ fn report(order: &Order, programme: &Programme, meter: &Meter) -> String {
     );
     let mut entry = |name: &str, words: String| text += &format!("  {name:<11}{words}\n");
     entry("audio", format!("{} Hz", programme.rate));
+    if let Some(words) = rds {
+        entry("rds", words);
+    }
     entry("peak", format!("{:.3} of full deviation", meter.peak));
     if meter.over > 0 {
         let over = format!("{} samples are beyond full deviation", meter.over);
@@ -273,6 +308,15 @@ mod tests {
     }
 
     #[test]
+    fn rds_has_a_file_and_a_level() {
+        let rds = |line: &str| parse(&format!("a.wav -o b.wav {line}")).unwrap().rds;
+        assert_eq!(rds(""), None);
+        assert_eq!(rds("--rds g.txt"), Some(("g.txt".into(), 0.03)));
+        let named = rds("--rds-level 0.1 --rds g.txt");
+        assert_eq!(named, Some(("g.txt".into(), 0.1)));
+    }
+
+    #[test]
     fn wrong_orders_are_refused_before_any_work() {
         for (line, words) in [
             ("-o a", "wants one stereo file"),
@@ -283,6 +327,11 @@ mod tests {
             ("a -o b --pilot 0.3", "--pilot wants"),
             ("a -o b --main -1", "--main wants"),
             ("a -o b --preemphasis 60", "none of 50, 75, none"),
+            (
+                "a -o b --rds c --rds-level 0.21",
+                "--rds-level wants a number",
+            ),
+            ("a -o b --rds-level 0.1", "--rds-level wants --rds"),
         ] {
             let fault = parse(line).unwrap_err();
             assert!(matches!(fault, Fault::Usage(_)), "{line}");

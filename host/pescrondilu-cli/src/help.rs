@@ -5,12 +5,12 @@ pescrondilu: FM stereo multiplex, decoded and encoded by a proved core
 
   pescrondilu demo [FOLDER]              make a damaged multiplex, decode it, draw the lamp
   pescrondilu decode CAPTURE [-o AUDIO]  a multiplex to stereo audio, with the lamp's history
-  pescrondilu encode AUDIO -o MULTIPLEX  left and right to a multiplex
+  pescrondilu encode AUDIO -o MULTIPLEX  left and right, and RDS, to a multiplex
   pescrondilu help [COMMAND]             options and examples of a command
   pescrondilu --version
 
-The pilot loop with its stereo decision, the matrix and the encoder are calls of the proved core.
-The filters around them are not proved.
+The pilot loop with its stereo decision, the matrix, the encoder and the RDS group former are calls
+of the proved core. The filters around them and the pulses of RDS are not proved.
 
 Exit codes: 0 done, 1 failed, 2 called wrongly.
 ";
@@ -72,9 +72,15 @@ two channels, LEFT and RIGHT are WAV files of one; - is standard input. Audio pa
   --main X            gain of sum and difference, 0 to 1 (0.9)
   --pilot X           amplitude of the pilot, 0 to 0.2 (0.09)
   --preemphasis 50|75|none   time constant in microseconds (50)
+  --rds FILE          RDS groups, one a line: four words of four hexadecimal digits each, blanks
+                      between them; # begins a comment. They are sent one after the other, and from
+                      the first again until the audio ends, at 1187.5 bit/s
+  --rds-level X       peak deviation of RDS, 0 to 0.2 (0.03). It comes on top of sum, difference and
+                      pilot: --main 0.88 leaves room for 0.03
 
 Examples
   pescrondilu encode programme.wav -o multiplex.wav
+  pescrondilu encode programme.wav -o multiplex.wav --rds groups.txt --main 0.88
   pescrondilu encode left.wav right.wav -o multiplex.wav --rate 250000 --preemphasis 75
   pescrondilu encode programme.wav -o - | pescrondilu decode - --raw f32 --rate 192000 -o out.wav
 ";

@@ -13,6 +13,7 @@ mod help;
 mod history;
 mod log;
 mod plot;
+mod rds;
 mod receiver;
 mod report;
 mod say;

@@ -3,6 +3,28 @@
 mod common;
 
 use common::*;
+use std::fs;
+
+/// Two groups of version A and one of version B, with what a file may have beside them.
+const GROUPS: &str = "\
+# programme D318
+D318 0408 E0CD 5065   # 0A
+d318\t0409\te0cd\t7363
+
+D318 3C0B D318 726F
+";
+const WORDS: [[u16; 4]; 3] = [
+    [0xD318, 0x0408, 0xE0CD, 0x5065],
+    [0xD318, 0x0409, 0xE0CD, 0x7363],
+    [0xD318, 0x3C0B, 0xD318, 0x726F],
+];
+
+/// A file of groups.
+fn groups(folder: &Folder, text: &str) -> String {
+    let name = folder.file("groups.txt");
+    fs::write(&name, text).unwrap();
+    name
+}
 
 /// Encodes left and right, decodes what comes out, and gives the audio.
 fn through(folder: &Folder, rate: u32, sides: [&[f32]; 2], more: [&[&str]; 2]) -> (String, Audio) {
@@ -27,6 +49,112 @@ fn encode_then_decode_separates_in_both_formats() {
         let back = amplitude(&audio.left[24_000..], 1_000.0, 48_000);
         assert!((back - 0.45).abs() < 0.001, "{back}");
     }
+}
+
+#[test]
+fn rds_leaves_the_separation_in_both_formats() {
+    let folder = Folder::new("beside-rds");
+    let groups = groups(&folder, GROUPS);
+    let (left, right) = (tone(1_000.0, 48_000, 1.2, 0.5), vec![0.0; 57_600]);
+    for format in ["f32", "q15"] {
+        let apart = |more: &[&str]| {
+            let options: [&[&str]; 2] = [more, &["--format", format]];
+            let (text, audio) = through(&folder, 48_000, [&left, &right], options);
+            assert!(text.contains("amplitude 0.0900: within BS.450"), "{text}");
+            separation(&audio, 1_000.0, 0.5)
+        };
+        let (without, with) = (apart(&[]), apart(&["--rds", &groups]));
+        println!("{format}: {without:.1} dB at 1 kHz, {with:.1} dB with RDS");
+        assert!((with - without).abs() < 1.0, "{format}: {without} {with}");
+    }
+}
+
+/// The difference has a tone at 52 kHz, and RDS begins at 54.6 kHz.
+#[test]
+fn rds_comes_back_bit_for_bit() {
+    let folder = Folder::new("rds");
+    let groups = groups(&folder, GROUPS);
+    let (audio, mpx) = (folder.file("in.wav"), folder.file("mpx.wav"));
+    let (left, right) = (
+        tone(14_000.0, 48_000, 0.5, 0.1),
+        tone(400.0, 48_000, 0.5, 0.5),
+    );
+    write_wav(&audio, 48_000, &[&left, &right]);
+    for rate in ["120000", "171007", "192000", "250000"] {
+        let words = ["encode", &audio, "-o", &mpx, "--rate", rate];
+        let text = run(&[&words[..], &["--rds", &groups]].concat()).done();
+        let line = "rds        3 groups in turn, 5 sent, 1187.5 bit/s, level 0.03\n";
+        assert!(text.text().contains(line), "{}", text.text());
+        let bits = rds::demodulate(&read_multiplex(&mpx), rate.parse().unwrap());
+        let found = rds::words(&bits);
+        assert_eq!(found.len(), 5, "whole groups");
+        for (at, words) in found.into_iter().enumerate() {
+            assert_eq!(words, WORDS[at % 3], "group {at} at {rate} Hz");
+        }
+        // with the filter at both ends no bit reaches into another
+        let sizes = bits[8..].iter().map(|x| x.abs());
+        let (least, most) = sizes.fold((1.0, 0.0), |(a, b), x| (x.min(a), x.max(b)));
+        println!("{rate} Hz: bits of {least:.5} to {most:.5}");
+        assert!(least > 0.99 * most, "{rate} Hz: {least} {most}");
+    }
+}
+
+#[test]
+fn the_rds_level_is_its_peak_deviation() {
+    let folder = Folder::new("rds-level");
+    let groups = groups(&folder, GROUPS);
+    let (audio, mpx) = (folder.file("in.wav"), folder.file("mpx.wav"));
+    let left = tone(1_000.0, 48_000, 1.0, 0.5);
+    write_wav(&audio, 48_000, &[&left]);
+    let encoded = |more: &[&str]| {
+        run(&[&["encode", &audio, "-o", &mpx], more].concat()).done();
+        read_multiplex(&mpx)
+    };
+    let without = encoded(&[]);
+    for level in ["0.03", "0.2"] {
+        let with = encoded(&["--rds", &groups, "--rds-level", level]);
+        let pairs = with.iter().zip(&without);
+        let most = pairs.map(|(a, b)| (a - b).abs()).fold(0.0, f32::max);
+        let level: f32 = level.parse().unwrap();
+        assert!(
+            most > 0.97 * level && most < level + 1e-6,
+            "{level}: {most}"
+        );
+    }
+    let silent = encoded(&["--rds", &groups, "--rds-level", "0"]);
+    assert_eq!(silent, without);
+}
+
+#[test]
+fn wrong_groups_are_refused_before_any_work() {
+    let folder = Folder::new("wrong-groups");
+    let (audio, mpx) = (folder.file("in.wav"), folder.file("mpx.wav"));
+    write_wav(&audio, 48_000, &[&[0.0; 100]]);
+    let encode = |groups: &str| run(&["encode", &audio, "-o", &mpx, "--rds", groups]);
+    for (text, reason) in [
+        ("", "has no groups"),
+        (
+            "0000 0000 0000 0000\n\n12 # short\n",
+            "line 3: 12 is no word",
+        ),
+        ("0000 0000 0000\n", "line 1: a group has four words, not 3"),
+        (
+            "#\n0001 0800 0002 0000\n",
+            "line 2: the core refused the group: cause 19: word three",
+        ),
+    ] {
+        let groups = groups(&folder, text);
+        encode(&groups).refused(1, &format!("{groups}: {reason}"));
+    }
+    fs::write(folder.file("groups.txt"), [0xFF, 0xFE]).unwrap();
+    encode(&folder.file("groups.txt")).refused(1, "is no text");
+    encode(&folder.file("none.txt")).refused(1, "there is no such file");
+    assert_eq!(folder.names(), ["groups.txt", "in.wav"]);
+    let groups = groups(&folder, GROUPS);
+    run(&["encode", &audio, "-o", &groups, "--rds", &groups]).refused(2, "written over");
+    let level = ["--rds", &groups, "--rds-level", "0.3"];
+    run(&[&["encode", &audio, "-o", &mpx], &level[..]].concat()).refused(2, "from 0 to 0.2");
+    assert_eq!(fs::read_to_string(&groups).unwrap(), GROUPS);
 }
 
 #[test]

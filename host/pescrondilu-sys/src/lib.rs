@@ -15,6 +15,7 @@ macro_rules! layout {
 pub mod decoder;
 pub mod encoder;
 pub mod numbers;
+pub mod rds;
 
 /// A block's answer: 0, or 100 and the cause's number; then the two lengths.
 #[repr(C)]

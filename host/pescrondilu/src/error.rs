@@ -62,7 +62,7 @@ impl Refusal {
             8 => "the integral gain or the lock coefficient becomes 0 in Q15",
             9 => "the table does not have 4097 entries",
             10 => "an input's length differs from the first input's",
-            11 => "an output's length differs from the first input's",
+            11 => "an output's length differs from the first input's, or a group's from 104",
             12 => "the pilot frequency is not from 18000 to 20000 Hz",
             13 => "the main gain is not from 0 to 1",
             14 => "the pilot amplitude is not from 0 to 0.2",
@@ -70,6 +70,7 @@ impl Refusal {
             16 => "the RDS level is not from 0 to 0.2",
             17 => "the frequency divided by the rate is not finite",
             18 => "the value does not fit Q14",
+            19 => "word three of the group differs from word one, and bit 11 of word two is set",
             _ => UNKNOWN,
         }
     }
@@ -95,7 +96,7 @@ impl fmt::Display for Refusal {
 
 impl core::error::Error for Refusal {}
 
-/// An answer with lengths: that of a block.
+/// An answer with lengths: that of a block or of a group.
 pub(crate) fn accepted(answer: Code) -> core::result::Result<(), Refusal> {
     match answer.code {
         0 => Ok(()),
@@ -128,9 +129,9 @@ pub(crate) fn coded<T>(code: u32, value: T) -> core::result::Result<T, Refusal> 
 pub enum Error {
     /// An argument is out of its range; the cause in words.
     InvalidParameter(&'static str),
-    /// The lengths of two slices differ.
+    /// The lengths of two slices differ, or a slice's from the one that is asked for.
     LengthMismatch {
-        /// The first slice's length.
+        /// The first slice's length, or the one that is asked for.
         expected: usize,
         /// The other slice's length.
         got: usize,
@@ -148,7 +149,7 @@ impl From<Refusal> for Error {
             Refusal { expected, got, .. } if refusal.has_lengths() => {
                 Error::LengthMismatch { expected, got }
             }
-            Refusal { number: 0..=18, .. } => Error::InvalidParameter(refusal.message()),
+            Refusal { number: 0..=19, .. } => Error::InvalidParameter(refusal.message()),
             _ => Error::Internal(refusal.message()),
         }
     }

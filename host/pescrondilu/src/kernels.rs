@@ -1,4 +1,5 @@
-//! The calls of the core, in the modules in which sdrk has them.
+//! The calls of the core, in the modules in which sdrk has them; sdrk has no RDS groups.
 
 pub mod mix;
+pub mod rds;
 pub mod stereo;

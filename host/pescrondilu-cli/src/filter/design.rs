@@ -51,7 +51,8 @@ impl Kernel {
     }
 }
 
-fn sinc(x: f64) -> f64 {
+/// sin(pi x) / (pi x).
+pub fn sinc(x: f64) -> f64 {
     if x == 0.0 {
         1.0
     } else {

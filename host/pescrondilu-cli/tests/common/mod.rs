@@ -3,6 +3,8 @@
 // each test file uses some of it
 #![allow(dead_code)]
 
+pub mod rds;
+
 use std::f64::consts::TAU;
 use std::fs;
 use std::io::Write;
@@ -189,6 +191,13 @@ pub fn write_wav(path: &str, rate: u32, channels: &[&[f32]]) {
         .collect();
     let bytes = wav(3, 32, channels.len() as u16, rate, &f32_bytes(&all));
     fs::write(path, bytes).unwrap();
+}
+
+/// The samples of a multiplex as the program writes it.
+pub fn read_multiplex(path: &str) -> Vec<f32> {
+    let bytes = fs::read(path).unwrap();
+    let data = bytes.windows(4).position(|w| w == b"data").unwrap() + 8;
+    floats(&bytes[data..])
 }
 
 pub struct Audio {

@@ -170,6 +170,17 @@ static pescrondilu_encode_rds any_encode_rds(void)
     return e;
 }
 
+/* Word three is word one again in every other fault, so that a group with C' can be formed. */
+static pescrondilu_rds_words any_words(void)
+{
+    pescrondilu_rds_words w;
+    w.one = (uint16_t)any16();
+    w.two = (uint16_t)any16();
+    w.three = fault % 2 == 1 ? w.one : (uint16_t)any16();
+    w.four = (uint16_t)any16();
+    return w;
+}
+
 /* ---- What came back -------------------------------------------------------------------------- */
 
 static void put16(int16_t x)
@@ -201,11 +212,16 @@ static void put_double(double x)
     put64(bits);
 }
 
+static void put_byte(uint8_t x)
+{
+    printf(" %02x", (unsigned)x);
+}
+
 static void put_bool(bool x)
 {
-    unsigned char byte;
+    uint8_t byte;
     memcpy(&byte, &x, sizeof byte);
-    printf(" %02x", (unsigned)byte);
+    put_byte(byte);
 }
 
 static void put_answer(pescrondilu_answer a)
@@ -298,6 +314,7 @@ static void put_encode_rds_made(pescrondilu_encode_rds_made m)
 
 static float table[PESCRONDILU_TABLE_LENGTH], in1[N], in2[N], in3[N], out1[N], out2[N];
 static int16_t table_q[PESCRONDILU_TABLE_LENGTH], in1_q[N], in2_q[N], out1_q[N], out2_q[N];
+static uint8_t bits[PESCRONDILU_RDS_GROUP_BITS + 1];
 
 /* New samples, and in the outputs what a call may leave there. */
 static void fill(void)
@@ -323,6 +340,19 @@ static void put_outputs(void)
         put16(out1_q[i]);
         put16(out2_q[i]);
     }
+}
+
+/* What a group may leave there; none of it is a bit. */
+static void fill_bits(void)
+{
+    for (size_t i = 0; i < sizeof bits; i++)
+        bits[i] = (uint8_t)(0x80 + i);
+}
+
+static void put_bits(void)
+{
+    for (size_t i = 0; i < sizeof bits; i++)
+        put_byte(bits[i]);
 }
 
 /* The length n, or one less where this is the fault of the case. */
@@ -533,6 +563,28 @@ static void encoders(void)
     })
 }
 
+/* The length of the output for a group: one less or one more in two of the faults. */
+static size_t bits_n(void)
+{
+    return fault == 7 ? PESCRONDILU_RDS_GROUP_BITS + 1 : length(PESCRONDILU_RDS_GROUP_BITS, 4);
+}
+
+static void groups(void)
+{
+    EACH(pescrondilu_rds_remainder, { put32(pescrondilu_rds_remainder(any32())); })
+    EACH(pescrondilu_rds_former_new, { put32(pescrondilu_rds_former_new().carried); })
+    EACH(pescrondilu_rds_group, {
+        fill_bits();
+        pescrondilu_rds_former f;
+        f.carried = any_switch();
+        pescrondilu_rds_words w = any_words();
+        pescrondilu_rds_reply r = pescrondilu_rds_group(f, w, bits, bits_n());
+        put_answer(r.answer);
+        put32(r.former.carried);
+        put_bits();
+    })
+}
+
 static void numbers(void)
 {
     EACH(pescrondilu_sat16, { put16(pescrondilu_sat16((int64_t)any64())); })
@@ -602,6 +654,7 @@ int main(void)
     }
     decoders();
     encoders();
+    groups();
     numbers();
     return 0;
 }

@@ -7,6 +7,7 @@ use pescrondilu_sys::Code;
 use pescrondilu_sys::decoder::*;
 use pescrondilu_sys::encoder::*;
 use pescrondilu_sys::numbers::*;
+use pescrondilu_sys::rds::*;
 use std::collections::{BTreeMap, BTreeSet};
 use std::fmt::Write;
 use std::process::Command;
@@ -14,6 +15,7 @@ use std::process::Command;
 const CASES: u32 = 96;
 const N: usize = 9;
 const TABLE: usize = 4097;
+const BITS: usize = 104;
 
 const ODD64: [u64; 12] = [
     0x0000000000000000,
@@ -58,6 +60,7 @@ struct Calls {
     in2_q: [i16; N],
     out1_q: [i16; N],
     out2_q: [i16; N],
+    bits: [u8; BITS + 1],
     lines: String,
 }
 
@@ -78,6 +81,7 @@ impl Calls {
             in2_q: [0; N],
             out1_q: [0; N],
             out2_q: [0; N],
+            bits: [0; BITS + 1],
             lines: String::new(),
         };
         for _ in 0..TABLE {
@@ -245,6 +249,20 @@ impl Calls {
         }
     }
 
+    fn any_words(&mut self) -> RdsWords {
+        let one = self.any16() as u16;
+        RdsWords {
+            one,
+            two: self.any16() as u16,
+            three: if self.fault % 2 == 1 {
+                one
+            } else {
+                self.any16() as u16
+            },
+            four: self.any16() as u16,
+        }
+    }
+
     fn fill(&mut self) {
         for i in 0..N {
             self.in1[i] = self.any_float();
@@ -259,12 +277,25 @@ impl Calls {
         }
     }
 
+    fn fill_bits(&mut self) {
+        for i in 0..=BITS {
+            self.bits[i] = 0x80 + i as u8;
+        }
+    }
+
     fn length(&self, n: usize, which: u32) -> usize {
         if self.fault == which { n - 1 } else { n }
     }
 
     fn table_n(&self) -> usize {
         self.length(TABLE, 4)
+    }
+
+    fn bits_n(&self) -> usize {
+        match self.fault {
+            7 => BITS + 1,
+            _ => self.length(BITS, 4),
+        }
     }
 
     // ---- What came back
@@ -289,8 +320,12 @@ impl Calls {
         self.put64(x.to_bits());
     }
 
+    fn put_byte(&mut self, x: u8) {
+        write!(self.lines, " {x:02x}").expect("a string takes it");
+    }
+
     fn put_bool(&mut self, x: bool) {
-        write!(self.lines, " {:02x}", x as u8).expect("a string takes it");
+        self.put_byte(x.into());
     }
 
     fn put_answer(&mut self, a: Code) {
@@ -367,6 +402,12 @@ impl Calls {
             self.put_float(self.out2[i]);
             self.put16(self.out1_q[i]);
             self.put16(self.out2_q[i]);
+        }
+    }
+
+    fn put_bits(&mut self) {
+        for i in 0..=BITS {
+            self.put_byte(self.bits[i]);
         }
     }
 
@@ -507,6 +548,18 @@ impl Calls {
         self.put_answer(r.answer);
         self.put_encode_rds(r.encoder);
         self.put_outputs();
+    }
+
+    fn rds_group(&mut self) {
+        self.fill_bits();
+        let carried = self.any_switch();
+        let words = self.any_words();
+        let n = self.bits_n();
+        let former = Former { carried };
+        let r = unsafe { pescrondilu_rds_group(former, words, self.bits.as_mut_ptr(), n) };
+        self.put_answer(r.answer);
+        self.put32(r.former.carried);
+        self.put_bits();
     }
 
     // ---- The functions, in the order of agreement.c
@@ -666,6 +719,18 @@ impl Calls {
         self.each("pescrondilu_encode_rds_block", Calls::encode_rds_block);
     }
 
+    fn groups(&mut self) {
+        self.each("pescrondilu_rds_remainder", |t| {
+            let y = pescrondilu_rds_remainder(t.any32());
+            t.put32(y);
+        });
+        self.each("pescrondilu_rds_former_new", |t| {
+            let f = pescrondilu_rds_former_new();
+            t.put32(f.carried);
+        });
+        self.each("pescrondilu_rds_group", Calls::rds_group);
+    }
+
     fn numbers(&mut self) {
         self.each("pescrondilu_sat16", |t| {
             let y = pescrondilu_sat16(t.any_i64());
@@ -789,6 +854,7 @@ fn from_rust() -> String {
     let mut calls = Calls::new();
     calls.decoders();
     calls.encoders();
+    calls.groups();
     calls.numbers();
     calls.lines
 }
@@ -848,6 +914,8 @@ fn the_calls_cover_the_library() {
             "pescrondilu_encode_rds_set_rds" => &[0, 116],
             "pescrondilu_on_air" => &[0, 1],
             "pescrondilu_q14_from_f64" => &[0, 118],
+            "pescrondilu_rds_group" => &[0, 111, 119],
+            "pescrondilu_rds_former_new" => &[0],
             _ if name.ends_with("_new") => {
                 let codes = codes(name);
                 assert!(codes[0] == 0 && codes.len() > 2, "{name}: {codes:?}");

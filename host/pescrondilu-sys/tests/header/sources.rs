@@ -36,7 +36,7 @@ impl Declared {
 }
 
 /// A struct in C, in Rattle and in Rust.
-pub const STRUCTS: [(&str, &str, &str); 19] = [
+pub const STRUCTS: [(&str, &str, &str); 22] = [
     ("pescrondilu_answer", "Code", "Code"),
     ("pescrondilu_f32", "DecoderF32", "Decoder<f32>"),
     ("pescrondilu_q15", "DecoderQ15", "Decoder<i64>"),
@@ -66,16 +66,21 @@ pub const STRUCTS: [(&str, &str, &str); 19] = [
         "EncodeRdsReply",
         "EncodeRdsReply",
     ),
+    ("pescrondilu_rds_words", "RdsWords", "RdsWords"),
+    ("pescrondilu_rds_former", "Former", "Former"),
+    ("pescrondilu_rds_reply", "FormerReply", "FormerReply"),
     ("pescrondilu_pair", "Pair", "Pair"),
     ("pescrondilu_q14", "CodedQ14", "CodedQ14"),
 ];
 
-const SCALARS: [(&str, &str); 8] = [
+const SCALARS: [(&str, &str); 10] = [
     ("f32", "float"),
     ("f64", "double"),
     ("i16", "int16_t"),
     ("i32", "int32_t"),
     ("i64", "int64_t"),
+    ("u8", "uint8_t"),
+    ("u16", "uint16_t"),
     ("u32", "uint32_t"),
     ("usize", "size_t"),
     ("bool", "bool"),
@@ -193,14 +198,21 @@ pub fn header() -> Declared {
             let open = open.unwrap_or_else(|| panic!("not a function: {here:?}"));
             let end = closing(here, open);
             let (name, result) = c_named(&here[..open]);
-            let parameters = parts(&here[open + 1..end - 1]);
-            let parameters = parameters.into_iter().map(c_named).collect();
+            let parameters = c_parameters(&here[open + 1..end - 1]);
             declared.function(&name, result, parameters);
             assert_eq!(here[end], ";", "after {name}");
             at += end + 1;
         }
     }
     declared
+}
+
+/// What stands between a function's brackets; `void` alone is no parameter.
+fn c_parameters(words: &[String]) -> Vec<Named> {
+    if words == ["void"] {
+        return Vec::new();
+    }
+    parts(words).into_iter().map(c_named).collect()
 }
 
 /// A declaration's name, which is its last word, and its type.
@@ -294,14 +306,15 @@ fn rust_fields(words: &[String], value: &str) -> Vec<Named> {
 
 pub fn rust_text() -> String {
     let mut text = String::new();
-    for file in ["lib.rs", "decoder.rs", "encoder.rs", "numbers.rs"] {
+    let files = ["lib.rs", "decoder.rs", "encoder.rs", "numbers.rs", "rds.rs"];
+    for file in files {
         let path = root().join("host/pescrondilu-sys/src").join(file);
         text.push_str(&without_line_comments(&read(&path)));
         text.push('\n');
     }
     let folder = root().join("host/pescrondilu-sys/src");
-    let files = fs::read_dir(folder).expect("src/ can be read").count();
-    assert_eq!(files, 4, "a file of src/ is not read here");
+    let there = fs::read_dir(folder).expect("src/ can be read").count();
+    assert_eq!(there, files.len(), "a file of src/ is not read here");
     text
 }
 
