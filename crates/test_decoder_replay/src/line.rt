@@ -1,8 +1,7 @@
 // A line of the list: a name in 16 columns, five arguments and twelve answers in words of 16
 // hexadecimal digits, with a space before each word and a new line after the last.
-use test_lines::line::Hex;
-use test_lines::line::has;
-use test_lines::line::word;
+use test_lines::line::is_formed;
+use test_lines::line::value;
 
 pub struct Words {
     // the arguments, then the answers
@@ -10,25 +9,15 @@ pub struct Words {
     pub good: bool,
 }
 
-// The words of a line, and whether each of them is one.
+// The words of a line, 0 for what is none, and whether each of them is one.
 pub(crate) fn read(line: &[u8; 306]) -> Words {
     let mut out = Words {
         w: [0u64; 17],
-        good: has(line, 305, b'\n'),
+        good: is_formed(line, 17),
     };
     let mut k = 0usize;
     while k < 17 {
-        let at = 17 * k + 16;
-        let spaced = has(line, at, b' ');
-        match word(line, at + 1) {
-            Hex::Value(v) => {
-                out.w[k] = v;
-                out.good = out.good & spaced;
-            }
-            Hex::Malformed => {
-                out.good = false;
-            }
-        }
+        out.w[k] = value(line, 17 * k + 17);
         k += 1;
     }
     out

@@ -1,19 +1,19 @@
 -- A line read from left to right: a word by its digits, a name by its bytes. Assumes nothing.
 use mathlib.Core.Path.{_≡_, refl, sym, _∙_, ap, ap₂, subst}
-use mathlib.Core.Bool.{Bool, true, false, _&&_, cond}
+use mathlib.Core.Bool.{Bool, true, false, _&&_, cond, and-false, false≢true}
 use mathlib.Core.List.{List, [], _∷_}
-use Prim.Native.Nat.{ℕ, suc, _+_, _-_, _*_, _^_, _≤_, _<_}
+use Prim.Native.Nat.{ℕ, zero, suc, _+_, _-_, _*_, _^_, _≤_, _<_}
 use native.Mathlib.Nat.{lt-of-lt-of-le}
 use native.Mathlib.Numerals.{add-one}
 use native.Mathlib.Omega.{arith}
-use borrow.Author.Tests.{le-leb, lt-leb, lt-ltb, le-ltb, ne-eqb, eq-eqb}
+use borrow.Author.Tests.{le-leb, lt-leb, lt-ltb, le-ltb, ltb-true, ltb-false, ne-eqb, eq-eqb}
 use lib.Dec.{eqb, ltb, lit<}
 use lib.ListN.{length, getD, drop, drop-of-length-le}
 use lib.Pow.{pow-mono, pow-add}
 use lib.Seq.{slice, slice-cons, slice-empty, drop-cons}
 use Rattle.test_lines.specs.declared.line.Hex.{Hex}
 use Rattle.test_lines.specs.declared.line.Hex.the-variants.{Value, Malformed}
-use Rattle.test_lines.specs.Columns.{digitOf, hexOf, wordAt, startsWith, firstOf}
+use Rattle.test_lines.specs.Columns.{digitOf, hexOf, wordAt, isWord, hasAt, allOf, standsAt, formedOf, startsWith, firstOf}
 
 -- ---- a word: after i digits v is below 16^i, and the digits left make it the word
 pub record Read (l : List ℕ) (at v i : ℕ) : Type 0 where
@@ -108,3 +108,48 @@ module _ (f : ℕ → Bool) (k n : ℕ) (h : k < n) where
 
 pub none-left : (f : ℕ → Bool) (k n : ℕ) → n ≤ k → firstOf f k (n - k) ≡ k
 none-left f k n h = let m : n - k ≡ 0 = omega arith in rw m
+
+-- ---- words one after the other: k of them stand, and the next one's space is at the column `at`
+pub record Standing (s : List ℕ) (at k : ℕ) : Type 0 where
+  pub column : at ≡ 16 + 17 * k
+  pub inside : at ≤ length s + 16
+  pub stand : allOf (standsAt s) k ≡ true
+
+pub standing-start : (s : List ℕ) → Standing s 16 0
+standing-start s = record { column = refl; inside = omega arith; stand = refl }
+
+and-out : (a b : Bool) → a && b ≡ true → (a ≡ true) × (b ≡ true)
+and-out true b h = (refl, h)
+and-out false b h = absurd (false≢true h)
+
+all-false : (f : ℕ → Bool) (k n : ℕ) → k < n → f k ≡ false → allOf f n ≡ false
+all-false f k zero h e = absurd (omega arith)
+all-false f k (suc n) h e = go (λ l. all-false f k n l e) (ltb k n) refl
+  where
+    go : (k < n → allOf f n ≡ false) → (t : Bool) → ltb k n ≡ t → (allOf f n && f n) ≡ false
+    go before true l = ap (λ (b : Bool). b && f n) (before (ltb-true k n l))
+    go before false l =
+        let same : n ≡ k = omega (arith, ltb-false k n l) in
+        ap (λ (b : Bool). allOf f n && b) (ap f same ∙ e) ∙ and-false (allOf f n)
+
+module _ (s : List ℕ) (at k : ℕ) (w : Standing s at k) where
+  -- the next word, by its two tests
+  pub stands : (a b t : Bool) → a ≡ hasAt s at 32 → b ≡ isWord (wordAt s (at + 1)) → (a && b) ≡ t → standsAt s k ≡ t
+  stands a b t e f g = ap₂ (λ (x : ℕ) (y : ℕ). hasAt s x 32 && isWord (wordAt s (y + 1))) (sym (w .column)) (sym (w .column)) ∙ ap₂ _&&_ (sym e) (sym f) ∙ g
+
+  pub standing-next : standsAt s k ≡ true → Standing s (at + 17) (k + 1)
+  standing-next e = record {
+    column = omega (arith, w .column);
+    inside = omega (arith, w .column, ltb-true (16 + 17 * k) (length s) (and-out (ltb (16 + 17 * k) (length s)) (eqb (getD s (16 + 17 * k) 0) 32) (and-out (hasAt s (16 + 17 * k) 32) (isWord (wordAt s (16 + 17 * k + 1))) e .0) .0));
+    stand = rw (add-one k) (ap₂ _&&_ (w .stand) e);
+  }
+
+  pub not-formed : (n : ℕ) → k < n → standsAt s k ≡ false → false ≡ formedOf s n
+  unfolding formedOf
+  not-formed n h e = sym (ap (λ (b : Bool). b && hasAt s (16 + 17 * n) 10) (all-false (standsAt s) k n h e))
+
+  pub formed-by : (n : ℕ) → n ≤ k → k ≤ n → hasAt s at 10 ≡ formedOf s n
+  unfolding formedOf
+  formed-by n h l =
+      let same : k ≡ n = omega arith in
+      ap₂ (λ (b : Bool) (x : ℕ). b && hasAt s x 10) (sym (w .stand) ∙ ap (allOf (standsAt s)) same) (w .column ∙ ap (λ (j : ℕ). 16 + 17 * j) same)

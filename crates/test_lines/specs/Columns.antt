@@ -21,9 +21,31 @@ hexOf v (c ∷ s) = cond (ltb (digitOf c) 16) (hexOf (v * 16 + digitOf c) s) Mal
 abbrev pub wordAt : List ℕ → ℕ → Hex
 wordAt s at = cond (leb (at + 16) (length s)) (hexOf 0 (slice at (at + 16) s)) Malformed
 
+-- a word's value, or 0 where there is none
+abbrev pub valueIn : Hex → ℕ
+valueIn (Value v) = v
+valueIn Malformed = 0
+
+abbrev pub isWord : Hex → Bool
+isWord (Value v) = true
+isWord Malformed = false
+
 -- whether a column has a byte
 abbrev pub hasAt : List ℕ → ℕ → ℕ → Bool
 hasAt s at byte = ltb at (length s) && eqb (getD s at 0) byte
+
+-- whether a test passes at 0, 1, .., n - 1
+abbrev pub allOf : (ℕ → Bool) → ℕ → Bool
+allOf f zero = true
+allOf f (suc n) = allOf f n && f n
+
+-- whether the k-th word after the name stands in its columns, with a space (32) before it
+abbrev pub standsAt : List ℕ → ℕ → Bool
+standsAt s k = hasAt s (16 + 17 * k) 32 && isWord (wordAt s (16 + 17 * k + 1))
+
+-- whether n words follow the name, and after them a new line (10)
+unfoldable pub formedOf : List ℕ → ℕ → Bool
+formedOf s n = allOf (standsAt s) n && hasAt s (16 + 17 * n) 10
 
 -- whether a line begins with a name
 abbrev pub startsWith : List ℕ → List ℕ → Bool

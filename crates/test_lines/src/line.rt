@@ -1,8 +1,8 @@
 // A line of a list: a name in 16 columns, then words in 16 hexadecimal digits each.
 ghost use mathlib.Core.Path.{_≡_};
-ghost use Rattle.test_lines.specs.Columns.{digitOf, wordAt, hasAt, startsWith, findOf};
+ghost use Rattle.test_lines.specs.Columns.{digitOf, wordAt, valueIn, isWord, hasAt, formedOf, startsWith, findOf};
 
-pub enum Hex {
+enum Hex {
     Value(u64),
     Malformed,
 }
@@ -21,7 +21,7 @@ fn digit(c: u8) -> u64
 }
 
 // The word whose 16 digits begin at a column.
-pub fn word(line: &[u8], at: usize) -> Hex
+fn word(line: &[u8], at: usize) -> Hex
     ensures { λ r. ⌜ r ≡ wordAt (now (line .entry)) at ⌝ }
 {
     if line.len() < 16 {
@@ -44,7 +44,7 @@ pub fn word(line: &[u8], at: usize) -> Hex
 }
 
 // Whether the byte at a column is the one that has to be there.
-pub fn has(line: &[u8], at: usize, byte: u8) -> bool
+fn has(line: &[u8], at: usize, byte: u8) -> bool
     ensures { λ r. ⌜ r ≡ hasAt (now (line .entry)) at byte ⌝ }
 {
     if at < line.len() {
@@ -52,6 +52,41 @@ pub fn has(line: &[u8], at: usize, byte: u8) -> bool
     } else {
         false
     }
+}
+
+fn is_word(line: &[u8], at: usize) -> bool
+    ensures { λ r. ⌜ r ≡ isWord (wordAt (now (line .entry)) at) ⌝ }
+{
+    match word(line, at) {
+        Hex::Value(_) => true,
+        Hex::Malformed => false,
+    }
+}
+
+// The word at a column, or 0 where there is none.
+pub fn value(line: &[u8], at: usize) -> u64
+    ensures { λ r. ⌜ r ≡ valueIn (wordAt (now (line .entry)) at) ⌝ }
+{
+    match word(line, at) {
+        Hex::Value(v) => v,
+        Hex::Malformed => 0,
+    }
+}
+
+// Whether so many words follow the name, with a space before each and a new line after the last.
+pub fn is_formed(line: &[u8], count: usize) -> bool
+    ensures { λ r. ⌜ r ≡ formedOf (now (line .entry)) count ⌝ }
+{
+    let mut at = 16usize;
+    let mut k = 0usize;
+    while k < count {
+        if !(has(line, at, b' ') & is_word(line, at + 1)) {
+            return false;
+        }
+        at += 17;
+        k += 1;
+    }
+    has(line, at, b'\n')
 }
 
 // Whether a line begins with a name of any length.

@@ -3,10 +3,9 @@
 use crate::answer::Answers;
 use crate::names::COUNT;
 use crate::names::NAMES;
-use test_lines::line::Hex;
 use test_lines::line::find;
-use test_lines::line::has;
-use test_lines::line::word;
+use test_lines::line::is_formed;
+use test_lines::line::value;
 
 pub struct Case {
     pub function: usize,
@@ -20,49 +19,12 @@ pub enum Read {
     Malformed,
 }
 
-// Whether the columns between the words are as they have to be.
-fn is_spaced(line: &[u8; 136]) -> bool {
-    has(line, 16, b' ')
-        & has(line, 33, b' ')
-        & has(line, 50, b' ')
-        & has(line, 67, b' ')
-        & has(line, 84, b' ')
-        & has(line, 101, b' ')
-        & has(line, 118, b' ')
-        & has(line, 135, b'\n')
-}
-
-fn is_word(line: &[u8; 136], at: usize) -> bool {
-    match word(line, at) {
-        Hex::Value(_) => true,
-        Hex::Malformed => false,
-    }
-}
-
-// The word at a column, or 0 where there is none.
-fn value(line: &[u8; 136], at: usize) -> u64 {
-    match word(line, at) {
-        Hex::Value(w) => w,
-        Hex::Malformed => 0,
-    }
-}
-
-fn is_formed(line: &[u8; 136]) -> bool {
-    is_word(line, 17)
-        & is_word(line, 34)
-        & is_word(line, 51)
-        & is_word(line, 68)
-        & is_word(line, 85)
-        & is_word(line, 102)
-        & is_word(line, 119)
-}
-
 pub(crate) fn parse(line: &[u8; 136]) -> Read {
     let function = find(line, &NAMES);
     if function >= COUNT {
         return Read::Malformed;
     }
-    if !(is_spaced(line) & is_formed(line)) {
+    if !is_formed(line, 7) {
         return Read::Malformed;
     }
     Read::Case(Case {
