@@ -7,9 +7,9 @@ use rds::former::RdsFormer;
 use rds::former::RdsWords;
 use rds::former::group_code;
 ghost use mathlib.Core.Path.{_≡_};
-ghost use Rattle.answers.specs.Coded.{onAt};
+ghost use Rattle.answers.specs.Coded.{onAt, switchOf};
 ghost use Rattle.rds.specs.Division.{remainderOf};
-ghost use Rattle.rds.specs.Former.{groupOf};
+ghost use Rattle.rds.specs.Former.{fresh, groupOf};
 ghost use Rattle.c_rds.specs.Coded.{codedGroup};
 
 // The former's record in C.
@@ -35,7 +35,7 @@ pub extern "C" fn pescrondilu_rds_remainder(number: u32) -> u32
 
 #[no_mangle]
 pub extern "C" fn pescrondilu_rds_former_new() -> Former
-    ensures { λ r. ⌜ r .carried ≡ 0 ⌝ }
+    ensures { λ r. ⌜ r .carried ≡ switchOf fresh ⌝ }
 {
     let former = RdsFormer::new();
     Former {

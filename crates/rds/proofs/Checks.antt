@@ -10,7 +10,7 @@ use lib.Dec.{lit<, lit≤, eqb}
 use lib.ListN.{length, length-append}
 use lib.Pow.{high, low, shr-shr, split, field, mod-mod-pow, shr-lt, pow-pos}
 use Rattle.rds.specs.declared.blocks.Offset.{Offset}
-use Rattle.rds.specs.declared.blocks.Offset.the-variants.{A, B, C, Second, D}
+use Rattle.rds.specs.declared.blocks.Offset.the-variants.{A, B, C, CPrime, D}
 use Rattle.rds.specs.Division.{bit, remainderOf, Leaves, product}
 use Rattle.rds.specs.Blocks.{wordOf, checkOf, checkwordOf, blockOf, bitsOf, blockBits, offsetIn}
 use Rattle.rds.proofs.Exclusive.{xor-assoc, xor-twice}
@@ -21,7 +21,7 @@ word-below : (o : Offset) → wordOf o < 2 ^ 10
 word-below A = lit< tt
 word-below B = lit< tt
 word-below C = lit< tt
-word-below Second = lit< tt
+word-below CPrime = lit< tt
 word-below D = lit< tt
 
 module _ (w : ℕ) (fits : w < 2 ^ 16) where
@@ -130,13 +130,13 @@ formed-offset w o h =
 
 -- an offset from its word
 abbrev named : ℕ → Offset
-named x = cond (eqb x (wordOf A)) A (cond (eqb x (wordOf B)) B (cond (eqb x (wordOf C)) C (cond (eqb x (wordOf Second)) Second D)))
+named x = cond (eqb x (wordOf A)) A (cond (eqb x (wordOf B)) B (cond (eqb x (wordOf C)) C (cond (eqb x (wordOf CPrime)) CPrime D)))
 
 named-word : (o : Offset) → named (wordOf o) ≡ o
 named-word A = refl
 named-word B = refl
 named-word C = refl
-named-word Second = refl
+named-word CPrime = refl
 named-word D = refl
 
 -- the five differ, so a block holds at most one

@@ -4,19 +4,19 @@ use mathlib.Core.Bool.{Bool}
 use mathlib.Core.List.{List, [], _∷_, _++_}
 use lib.Bits.{bitXor}
 use Rattle.rds.specs.declared.blocks.Offset.{Offset}
-use Rattle.rds.specs.declared.blocks.Offset.the-variants.{A, B, C, Second, D}
+use Rattle.rds.specs.declared.blocks.Offset.the-variants.{A, B, C, CPrime, D}
 use Rattle.rds.specs.Division.{bit, remainderOf}
 
 -- three hexadecimal digits
 abbrev hex : ℕ → ℕ → ℕ → ℕ
 hex a b c = a * 16 ^ 2 + b * 16 + c
 
--- the offset words; `Second` is C'
+-- the offset words; `CPrime` is the one that is written C'
 abbrev pub wordOf : Offset → ℕ
 wordOf A = hex 0 15 12
 wordOf B = hex 1 9 8
 wordOf C = hex 1 6 8
-wordOf Second = hex 3 5 0
+wordOf CPrime = hex 3 5 0
 wordOf D = hex 1 11 4
 
 -- a word's check: what the generator leaves of the word times z^10

@@ -1,15 +1,15 @@
 -- The group former: four words become 104 bits. Source: document 02, request 2; IEC 62106. Definitions only.
 use Prim.Native.Nat.{ℕ}
-use mathlib.Core.Bool.{Bool, true, cond}
+use mathlib.Core.Bool.{Bool, true, false, cond}
 use mathlib.Core.List.{List, [], _∷_, _++_}
 use lib.Dec.{eqb}
 use lib.ListN.{length}
 use Rattle.answers.specs.Answer.{Said, accepted, turned, lengths, rule, outputRule, firstCause, kept}
 use Rattle.rds.specs.declared.blocks.Offset.{Offset}
-use Rattle.rds.specs.declared.blocks.Offset.the-variants.{A, B, C, Second, D}
+use Rattle.rds.specs.declared.blocks.Offset.the-variants.{A, B, C, CPrime, D}
 use Rattle.rds.specs.declared.former.RdsWords.{RdsWords}
 use Rattle.rds.specs.declared.former.GroupAnswer.{GroupAnswer}
-use Rattle.rds.specs.declared.former.GroupAnswer.the-variants.{Accepted, Output, Word}
+use Rattle.rds.specs.declared.former.GroupAnswer.the-variants.{Accepted, Output, WordThree}
 use Rattle.rds.specs.Division.{bit}
 use Rattle.rds.specs.Blocks.{blockBits}
 use Rattle.rds.specs.Coding.{Sent, sentOf}
@@ -19,7 +19,7 @@ abbrev pub versionB : RdsWords → Bool
 versionB words = bit 11 (words .two)
 
 abbrev pub third : RdsWords → Offset
-third words = cond (versionB words) Second C
+third words = cond (versionB words) CPrime C
 
 abbrev pub repeats : RdsWords → Bool
 repeats words = cond (versionB words) (eqb (words .three) (words .one)) true
@@ -30,6 +30,10 @@ plainOf words =
     blockBits (words .one) A ++ (blockBits (words .two) B ++ (blockBits (words .three) (third words) ++ blockBits (words .four) D))
 
 -- ---- the call
+-- the bit before a fresh former's first
+abbrev pub fresh : Bool
+fresh = false
+
 abbrev pub bits : ℕ
 bits = 104
 
@@ -53,4 +57,4 @@ groupOf carried words output =
 abbrev pub saysGroup : GroupAnswer → Said
 saysGroup Accepted = accepted
 saysGroup (Output found) = lengths 11 bits found
-saysGroup Word = turned 19
+saysGroup WordThree = turned 19

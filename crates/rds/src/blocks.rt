@@ -3,13 +3,13 @@ use crate::division::remainder;
 ghost use mathlib.Core.Path.{_≡_};
 ghost use Rattle.rds.specs.Blocks.{wordOf, blockOf};
 
-// The offset words, which tell a group's blocks apart. `Second` is C', for block three of a group that
+// The offset words, which tell a group's blocks apart. `CPrime` is for block three of a group that
 // sends word one again there.
 pub(crate) enum Offset {
     A,
     B,
     C,
-    Second,
+    CPrime,
     D,
 }
 
@@ -20,7 +20,7 @@ pub(crate) fn offset_word(offset: Offset) -> u32
         Offset::A => 0x0FC,
         Offset::B => 0x198,
         Offset::C => 0x168,
-        Offset::Second => 0x350,
+        Offset::CPrime => 0x350,
         Offset::D => 0x1B4,
     }
 }

@@ -4,12 +4,11 @@ use crate::blocks::block;
 use crate::division::has_place;
 use answers::answer::Code;
 ghost use mathlib.Core.Path.{_≡_};
-ghost use mathlib.Core.Bool.{false};
 ghost use lib.ListN.{length};
 ghost use Rattle.answers.specs.Answer.{codeOf};
 ghost use Rattle.rds.specs.Blocks.{blockBits};
 ghost use Rattle.rds.specs.Coding.{byteOf, sentOf};
-ghost use Rattle.rds.specs.Former.{versionB, third, repeats, plainOf, saysGroup, groupOf};
+ghost use Rattle.rds.specs.Former.{fresh, versionB, third, repeats, plainOf, saysGroup, groupOf};
 
 // A group's bits.
 pub const BITS: usize = 104;
@@ -34,7 +33,7 @@ pub enum GroupAnswer {
     // the output's length
     Output(usize),
     // word three differs from word one where C' is taken
-    Word,
+    WordThree,
 }
 
 // What a group's call answers, and the former after it.
@@ -46,7 +45,7 @@ pub struct GroupReply {
 impl RdsFormer {
     // A fresh former has sent nothing: its previous output bit is 0.
     pub fn new() -> RdsFormer
-        ensures { λ r. ⌜ r .carried ≡ false ⌝ }
+        ensures { λ r. ⌜ r .carried ≡ fresh ⌝ }
     {
         RdsFormer { carried: false }
     }
@@ -64,7 +63,7 @@ fn third_offset(words: RdsWords) -> Offset
     ensures { λ r. ⌜ r ≡ third words ⌝ }
 {
     if is_version_b(words) {
-        Offset::Second
+        Offset::CPrime
     } else {
         Offset::C
     }
@@ -135,7 +134,7 @@ pub fn group(former: RdsFormer, words: RdsWords, output: &mut [u8]) -> GroupRepl
     }
     if !is_repeated(words) {
         return GroupReply {
-            answer: GroupAnswer::Word,
+            answer: GroupAnswer::WordThree,
             former,
         };
     }
@@ -161,7 +160,7 @@ pub fn group_code(a: GroupAnswer) -> Code
             expected: BITS,
             got: n,
         },
-        GroupAnswer::Word => Code {
+        GroupAnswer::WordThree => Code {
             code: 119,
             expected: 0,
             got: 0,

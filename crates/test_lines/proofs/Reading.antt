@@ -1,6 +1,6 @@
 -- A line read from left to right: a word by its digits, a name by its bytes. Assumes nothing.
 use mathlib.Core.Path.{_≡_, refl, sym, _∙_, ap, ap₂, subst}
-use mathlib.Core.Bool.{Bool, true, false, _&&_, cond, and-false, false≢true}
+use mathlib.Core.Bool.{Bool, true, false, _&&_, cond, and-false}
 use mathlib.Core.List.{List, [], _∷_}
 use Prim.Native.Nat.{ℕ, zero, suc, _+_, _-_, _*_, _^_, _≤_, _<_}
 use native.Mathlib.Nat.{lt-of-lt-of-le}
@@ -11,6 +11,7 @@ use lib.Dec.{eqb, ltb, lit<}
 use lib.ListN.{length, getD, drop, drop-of-length-le}
 use lib.Pow.{pow-mono, pow-add}
 use lib.Seq.{slice, slice-cons, slice-empty, drop-cons}
+use Rattle.answers.proofs.Tests.{and-out}
 use Rattle.test_lines.specs.declared.line.Hex.{Hex}
 use Rattle.test_lines.specs.declared.line.Hex.the-variants.{Value, Malformed}
 use Rattle.test_lines.specs.Columns.{digitOf, hexOf, wordAt, isWord, hasAt, allOf, standsAt, formedOf, startsWith, firstOf}
@@ -117,10 +118,6 @@ pub record Standing (s : List ℕ) (at k : ℕ) : Type 0 where
 
 pub standing-start : (s : List ℕ) → Standing s 16 0
 standing-start s = record { column = refl; inside = omega arith; stand = refl }
-
-and-out : (a b : Bool) → a && b ≡ true → (a ≡ true) × (b ≡ true)
-and-out true b h = (refl, h)
-and-out false b h = absurd (false≢true h)
 
 all-false : (f : ℕ → Bool) (k n : ℕ) → k < n → f k ≡ false → allOf f n ≡ false
 all-false f k zero h e = absurd (omega arith)

@@ -74,7 +74,7 @@ fn is_accepted(a: GroupAnswer) -> bool {
     match a {
         GroupAnswer::Accepted => true,
         GroupAnswer::Output(_) => false,
-        GroupAnswer::Word => false,
+        GroupAnswer::WordThree => false,
     }
 }
 

@@ -15,7 +15,7 @@ const MATRIX: [u32; 16] = [
 const A: u32 = 0x0FC;
 const B: u32 = 0x198;
 const C: u32 = 0x168;
-const SECOND_C: u32 = 0x350;
+const C_PRIME: u32 = 0x350;
 const D: u32 = 0x1B4;
 
 /// Bit 11 of word two.
@@ -46,7 +46,7 @@ fn offsets(words: [u16; 4]) -> [u32; 4] {
     let third = if words[1] & VERSION_B == 0 {
         C
     } else {
-        SECOND_C
+        C_PRIME
     };
     [A, B, third, D]
 }
@@ -247,7 +247,7 @@ fn the_remainder_is_the_check_of_every_word() {
 #[test]
 fn the_remainder_of_a_block_is_its_offset_word() {
     let mut random = Random(26);
-    for offset in [A, B, C, SECOND_C, D] {
+    for offset in [A, B, C, C_PRIME, D] {
         for _ in 0..100 {
             let word = random.word() as u16;
             let block = u32::from(word) << 10 | check(word) ^ offset;
