@@ -1,7 +1,7 @@
 /*
- * The proved FM stereo core: pilot loop with stereo decision, matrix, multiplex encoders,
- * oscillator, on-air verdict and RDS group former, in libpescrondilu.a. x86-64 Linux, System V
- * calls; C99 or C++.
+ * The proved FM stereo core: pilot loop with stereo decision, scan of the pilot, matrix, multiplex
+ * encoders, oscillator, on-air verdict and RDS group former, in libpescrondilu.a. x86-64 Linux,
+ * System V calls; C99 or C++.
  *
  *     cc program.c -Iinclude -Ltarget/staticlib -lpescrondilu -lm
  *
@@ -100,7 +100,7 @@ typedef struct pescrondilu_answer {
     size_t got;
 } pescrondilu_answer;
 
-/* ---- What a receiver calls: decoders, matrix, verdict ---------------------------------------- */
+/* ---- What a receiver calls: decoders, scan, matrix, verdict ---------------------------------- */
 
 /*
  * A decoder in float: the gains, the integrator, the lock level with its two thresholds, the step
@@ -174,6 +174,12 @@ typedef struct pescrondilu_readout {
     uint32_t stereo;
     uint32_t enabled;
 } pescrondilu_readout;
+
+/* What a scan of a pilot tells: 1 where every sample is finite, else 0; and the samples read. */
+typedef struct pescrondilu_f32_scanned {
+    uint32_t finite;
+    size_t read;
+} pescrondilu_f32_scanned;
 
 /*
  * Makes a decoder: the pilot's and the loop's natural frequency in Hz, the amplitude expected of
@@ -257,6 +263,14 @@ pescrondilu_q15_reply pescrondilu_q15_merged_block(
     pescrondilu_q15 d, const int16_t *table, size_t table_n, const int16_t *mpx, size_t mpx_n,
     const int16_t *pilot, size_t pilot_n, int16_t *PESCRONDILU_RESTRICT left, size_t left_n,
     int16_t *PESCRONDILU_RESTRICT right, size_t right_n);
+
+/*
+ * Scans a pilot from its end, as the float blocks of the fast way do themselves, for a caller that
+ * wants to know what came in. Where a sample is NaN or infinite, finite is 0 and the last such one
+ * is pilot[pilot_n - read]; else finite is 1 and read is pilot_n. Never refused. (In fixed point
+ * there is no such sample.)
+ */
+pescrondilu_f32_scanned pescrondilu_f32_scan(const float *pilot, size_t pilot_n);
 
 /*
  * Sum and difference to left and right: sum + 2 difference and sum - 2 difference, in fixed point

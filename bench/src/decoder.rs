@@ -1,6 +1,9 @@
 //! How long our decoder's blocks take beside the original's: the fast one beside `Fallback`, the
 //! plain one beside `Reference`, the merged one beside `Fallback`'s block and then its matrix.
 
+#[cfg(before)]
+pub mod before;
+
 use std::hint::black_box;
 
 use pescrondilu_sys::decoder::{self, Decoder, Sample, Way};
@@ -19,8 +22,18 @@ use crate::{ACCEPTED, Staggered, ratio, wave, wave_q15};
 enum Pilot {
     Clean,
     OneNan,
+    LastNan,
     Disabled,
 }
+
+/// The pilots that are timed.
+const F32: [(Pilot, &str); 4] = [
+    (Pilot::Clean, "clean"),
+    (Pilot::OneNan, "one NaN"),
+    (Pilot::LastNan, "last NaN"),
+    (Pilot::Disabled, "disabled"),
+];
+const Q15_PILOTS: [(Pilot, &str); 2] = [F32[0], F32[3]];
 
 /// What the timing needs of a format.
 trait Timed: RealSample {
@@ -217,6 +230,7 @@ struct Inputs<F: Timed> {
 fn inputs<F: Timed>(pilot: Pilot, step0: u32, n: usize) -> Inputs<F> {
     let at = |i: usize| match pilot {
         Pilot::OneNan if i == n / 2 => F::nan(),
+        Pilot::LastNan if i == n - 1 => F::nan(),
         _ => F::pilot(step0.wrapping_mul(i as u32)),
     };
     Inputs {
@@ -316,10 +330,8 @@ fn format<F: Timed>(n: usize, name: &str, pilots: &[(Pilot, &str)]) {
 }
 
 pub fn run() {
-    let q15 = [(Pilot::Clean, "clean"), (Pilot::Disabled, "disabled")];
-    let f32 = [q15[0], (Pilot::OneNan, "one NaN"), q15[1]];
     for n in [64, 4096] {
-        format::<f32>(n, "f32", &f32);
-        format::<Q15>(n, "q15", &q15);
+        format::<f32>(n, "f32", &F32);
+        format::<Q15>(n, "q15", &Q15_PILOTS);
     }
 }

@@ -9,7 +9,9 @@ use std::time::Instant;
 
 use pescrondilu_sys::Code;
 use pescrondilu_sys::decoder::matrix;
-use pescrondilu_sys::encoder::{Nco, StereoEncode, StereoEncodeRds, encode_block, encode_rds_block};
+use pescrondilu_sys::encoder::{
+    Nco, StereoEncode, StereoEncodeRds, encode_block, encode_rds_block,
+};
 use sdrk_core::Fallback;
 use sdrk_core::kernels::stereo::{StereoEncode as _, StereoEncodeRds as _, StereoMatrix};
 use sdrk_core::probe;
@@ -210,7 +212,17 @@ fn encoder(n: usize, with_rds: bool) -> f64 {
     answer
 }
 
-fn main() {
+/// The rows beside an earlier library, if one was linked.
+#[cfg(before)]
+use decoder::before::run as beside_earlier;
+
+#[cfg(not(before))]
+fn beside_earlier() {
+    eprintln!("bench: no earlier library was named by BEFORE when this was built");
+    std::process::exit(1);
+}
+
+fn beside_original() {
     for n in [64, 4096] {
         println!("matrix_f32  {n:5} {:.3}", matrix_f32(n));
         println!("matrix_q15  {n:5} {:.3}", matrix_q15(n));
@@ -218,4 +230,15 @@ fn main() {
         println!("encode_rds  {n:5} {:.3}", encoder(n, true));
     }
     decoder::run();
+}
+
+fn main() {
+    match std::env::args().nth(1).as_deref() {
+        None => beside_original(),
+        Some("before") => beside_earlier(),
+        Some(_) => {
+            eprintln!("usage: bench [before]");
+            std::process::exit(2);
+        }
+    }
 }

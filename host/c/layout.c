@@ -71,6 +71,10 @@ FIELD(pescrondilu_readout, phase, 24);
 FIELD(pescrondilu_readout, stereo, 28);
 FIELD(pescrondilu_readout, enabled, 32);
 
+SIZE(pescrondilu_f32_scanned, 16);
+FIELD(pescrondilu_f32_scanned, finite, 0);
+FIELD(pescrondilu_f32_scanned, read, 8);
+
 SIZE(pescrondilu_nco, 8);
 FIELD(pescrondilu_nco, phase, 0);
 FIELD(pescrondilu_nco, inc, 4);

@@ -10,6 +10,7 @@ use Rattle.c_decoder.proofs.in_f32.pescrondilu_f32_reset.Reads as f32-r
 use Rattle.c_decoder.proofs.in_f32.pescrondilu_f32_block.Reads as f32-block
 use Rattle.c_decoder.proofs.in_f32.pescrondilu_f32_plain_block.Reads as f32-plain-block
 use Rattle.c_decoder.proofs.in_f32.pescrondilu_f32_read.Reads as f32-read
+use Rattle.c_decoder.proofs.in_f32.pescrondilu_f32_scan.Reads as f32-scan
 use Rattle.c_decoder.proofs.in_q15.taken.Reads as q15-taken
 use Rattle.c_decoder.proofs.in_q15.given.Reads as q15-given
 use Rattle.c_decoder.proofs.in_q15.pescrondilu_q15_new.Reads as q15-new
@@ -32,7 +33,8 @@ pub f32-free :
     × (f32-block.Asked ≡ λ κs a. Unit {0})
     × (f32-plain-block.Asked ≡ λ κs a. Unit {0})
     × (f32-read.Asked ≡ λ κs a. Unit {0})
-f32-free = (refl, refl, refl, refl, refl, refl, refl, refl, refl)
+    × (f32-scan.Asked ≡ λ κs a. Unit {0})
+f32-free = (refl, refl, refl, refl, refl, refl, refl, refl, refl, refl)
 
 pub q15-free :
     (q15-taken.Asked ≡ λ κs a. Unit {0})

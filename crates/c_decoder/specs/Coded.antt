@@ -11,7 +11,9 @@ use Rattle.decoder_record.specs.Fresh.{fraction}
 use Rattle.decoder.specs.Machine.{Blocked}
 use Rattle.matrix.specs.Matrix.{Matrixed}
 use Rattle.c_decoder.specs.declared.shared.Readout.{Readout}
+use Rattle.pilot_scan.specs.declared.Scanned.{Scanned}
 use Rattle.c_decoder.specs.declared.in_f32.DecoderF32.{DecoderF32}
+use Rattle.c_decoder.specs.declared.in_f32.ScannedF32.{ScannedF32}
 use Rattle.c_decoder.specs.declared.in_q15.DecoderQ15.{DecoderQ15}
 
 -- ---- the record: the fields in C's order
@@ -121,6 +123,10 @@ readF32 = readBy (λ x. x) (λ x. x)
 
 abbrev pub readQ15 : Pll ℤ → Readout
 readQ15 = readBy (fraction 64) (fraction 61)
+
+-- ---- the scan
+abbrev pub codedScan : Scanned → ScannedF32
+codedScan s = record { finite = switchOf (s .finite); read = s .read }
 
 -- ---- the matrix: the answer's numbers and the outputs
 pub record CodedMatrix (A : Type 0) : Type 0 where

@@ -14,7 +14,8 @@ ghost use Rattle.decoder_record.specs.Fresh.{newF32Of};
 ghost use Rattle.decoder_record.specs.Records.{pllF32};
 ghost use Rattle.decoder.specs.Machine.{blockOf};
 ghost use Rattle.decoder.specs.F32.{f32};
-ghost use Rattle.c_decoder.specs.Coded.{decoderF32, takenOf, givenOf, codedDecoder, codedBlock, readF32};
+ghost use Rattle.pilot_scan.specs.Scan.{scanOf};
+ghost use Rattle.c_decoder.specs.Coded.{decoderF32, takenOf, givenOf, codedDecoder, codedBlock, readF32, codedScan};
 
 // The record in C.
 #[repr(C)]
@@ -45,6 +46,13 @@ pub struct CodedF32 {
 pub struct ReplyF32 {
     pub answer: Code,
     pub decoder: DecoderF32,
+}
+
+// What a scan of a pilot tells.
+#[repr(C)]
+pub struct ScannedF32 {
+    pub finite: u32,
+    pub read: usize,
 }
 
 // The machine's record from C's, for this crate and the others of the C boundary.
@@ -212,5 +220,17 @@ pub extern "C" fn pescrondilu_f32_read(d: DecoderF32) -> Readout
         phase: t.phase(),
         stereo: switch_of(t.is_stereo()),
         enabled: switch_of(t.is_enabled()),
+    }
+}
+
+// Whether every sample of a pilot is finite, and how many were read from the end.
+#[no_mangle]
+pub extern "C" fn pescrondilu_f32_scan(pilot: &[f32]) -> ScannedF32
+    ensures { λ r. ⌜ r ≡ codedScan (scanOf (now (pilot .entry))) ⌝ }
+{
+    let scanned = pilot_scan::scan(pilot);
+    ScannedF32 {
+        finite: switch_of(scanned.finite),
+        read: scanned.read,
     }
 }

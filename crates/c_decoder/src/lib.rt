@@ -1,4 +1,4 @@
-// Both decoders and both matrices under C names, for a program in Rust or C to call. A decoder's
+// Both decoders, both matrices and the scan of the pilot under C names, for a program in Rust or C to call. A decoder's
 // record goes in and out by value, a slice is a pointer and then a length, and answers are numbers,
 // as specs/Coded.antt defines them.
 pub mod in_f32;

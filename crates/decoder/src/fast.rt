@@ -7,7 +7,6 @@ use crate::parts::StepF32;
 use crate::parts::advanced;
 use crate::parts::full_table;
 use answers::answer::is_accepted;
-use decoder_parts::finite::scan;
 use decoder_parts::in_f32::decided;
 use decoder_parts::in_f32::demodulated;
 use decoder_parts::in_f32::error_of;
@@ -23,6 +22,7 @@ use phase::correction::correction_quick;
 use phase::lookup::cos_f32;
 use phase::lookup::interp_f32_pair;
 use phase::lookup::sine_at_twice;
+use pilot_scan::scan;
 ghost use mathlib.Core.Path.{_≡_};
 ghost use mathlib.Core.Bool.{true};
 ghost use lib.ListN.{length};
@@ -172,7 +172,7 @@ pub fn block(
         return ReplyF32 { answer, decoder: d };
     }
     let cosines = full_table(table);
-    if scan(pilot) {
+    if scan(pilot).finite {
         let decoder = run_clean(d, cosines, mpx, pilot, sum, difference);
         return ReplyF32 { answer, decoder };
     }

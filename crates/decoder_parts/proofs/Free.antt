@@ -2,7 +2,6 @@
 -- show, by F's `requires`. Assumes nothing.
 use mathlib.Core.Path.{_≡_, refl}
 use Rattle.decoder_parts.proofs.advance.phase_after.Reads as phase-after
-use Rattle.decoder_parts.proofs.finite.scan.Reads as scan
 use Rattle.decoder_parts.proofs.in_f32.level_next.Reads as level-next
 use Rattle.decoder_parts.proofs.in_f32.decided.Reads as in-f32-decided
 use Rattle.decoder_parts.proofs.in_f32.accumulated.Reads as accumulated
@@ -17,7 +16,6 @@ use Rattle.decoder_parts.proofs.in_q15.selected.Reads as selected
 
 pub nothing-asked :
     (phase-after.Asked ≡ λ κs a. Unit {0})
-    × (scan.Asked ≡ λ κs a. Unit {0})
     × (level-next.Asked ≡ λ κs a. Unit {0})
     × (in-f32-decided.Asked ≡ λ κs a. Unit {0})
     × (accumulated.Asked ≡ λ κs a. Unit {0})
@@ -29,4 +27,4 @@ pub nothing-asked :
     × (stereo-of.Asked ≡ λ κs a. Unit {0})
     × (in-q15-decided.Asked ≡ λ κs a. Unit {0})
     × (selected.Asked ≡ λ κs a. Unit {0})
-nothing-asked = (refl, refl, refl, refl, refl, refl, refl, refl, refl, refl, refl, refl, refl)
+nothing-asked = (refl, refl, refl, refl, refl, refl, refl, refl, refl, refl, refl, refl)

@@ -302,22 +302,6 @@ fn odd_f32(table: &[f32]) {
     );
 }
 
-// Whether a pilot with this sample among others is all finite.
-fn scan(name: &[u8], x: f32) {
-    let pilot = [1.0, -1.0, x, 0.0];
-    label(name);
-    number(decoder_parts::finite::scan(&pilot) as u64);
-    done();
-}
-
-fn scans() {
-    scan(b"scan of the largest:", f32_of(0x7F7F_FFFF));
-    scan(b"scan of the lowest:", f32_of(0xFF7F_FFFF));
-    scan(b"scan of infinity:", f32_of(0x7F80_0000));
-    scan(b"scan of minus infinity:", f32_of(0xFF80_0000));
-    scan(b"scan of NaN:", 0.0 / 0.0);
-}
-
 fn main() {
     let ones = [1.0f32; 4097];
     let halves = [16384i16; 4097];
@@ -328,7 +312,6 @@ fn main() {
     samples_q15(&halves);
     at_the_top();
     odd_f32(&ones);
-    scans();
     left_right::causes_f32(&ones);
     left_right::causes_q15(&halves);
     left_right::minus_zero(&ones);

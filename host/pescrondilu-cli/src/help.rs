@@ -9,8 +9,9 @@ pescrondilu: FM stereo multiplex, decoded and encoded by a proved core
   pescrondilu help [COMMAND]             options and examples of a command
   pescrondilu --version
 
-The pilot loop with its stereo decision, the matrix, the encoder and the RDS group former are calls
-of the proved core. The filters around them and the pulses of RDS are not proved.
+The pilot loop with its stereo decision, the scan of the pilot, the matrix, the encoder and the RDS
+group former are calls of the proved core. The filters around them and the pulses of RDS are not
+proved.
 
 Exit codes: 0 done, 1 failed, 2 called wrongly.
 ";
@@ -48,8 +49,9 @@ Receiver
 The audio's rate is the capture's divided by a whole number: 48 or 44.1 kHz where that can be, else
 near 48 kHz. All times are those of the capture: the filters add no delay. A NaN or infinity in the
 capture is passed on and is gone after the filters' length; with de-emphasis the audio stays where
-it was until then. The integer core takes a NaN for 0, limits the capture to full deviation, and
-works at a quarter of it, so that left and right are not limited before their low-pass.
+it was until then. The report counts them, and says when the last one stood in the pilot. The
+integer core takes a NaN for 0, limits the capture to full deviation, and works at a quarter of it,
+so that left and right are not limited before their low-pass.
 
 Examples
   pescrondilu decode capture.wav -o audio.wav --log lamp.csv --plot lamp.svg

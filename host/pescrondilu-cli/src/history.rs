@@ -110,6 +110,8 @@ pub struct Totals {
     pub changes: u64,
     pub bad: u64,
     pub bad_pilot: u64,
+    /// The last pilot sample that is NaN or infinite.
+    pub last_bad_pilot: Option<u64>,
     /// Highest level; 0 where there was none above.
     pub highest: f64,
     /// The lamp and the level at the end.
@@ -131,6 +133,8 @@ impl Totals {
         self.changes += u64::from(changed);
         self.bad += sight.bad as u64;
         self.bad_pilot += sight.bad_pilot as u64;
+        let last = sight.last_bad_pilot.map(|at| before + at as u64);
+        self.last_bad_pilot = last.or(self.last_bad_pilot);
         // `max` passes over a NaN
         self.highest = self.highest.max(sight.level);
         self.nan_since = self
@@ -245,6 +249,7 @@ mod tests {
             stereo,
             bad,
             bad_pilot: 2 * bad,
+            last_bad_pilot: (bad > 0).then_some(7),
         }
     }
 
@@ -300,6 +305,15 @@ mod tests {
         assert_eq!(periods.last().unwrap().highest, (n - 1) as f64);
         assert_eq!(history.changes().len(), MOST_CHANGES);
         assert_eq!(history.totals().changes, n);
+    }
+
+    #[test]
+    fn the_last_bad_pilot_sample_is_dated() {
+        let mut history = History::new(20);
+        for (bad, last) in [(0, None), (3, Some(17)), (0, Some(17)), (1, Some(37))] {
+            history.see(sight(0.03, true, bad));
+            assert_eq!(history.totals().last_bad_pilot, last);
+        }
     }
 
     #[test]

@@ -2,7 +2,7 @@
 //! then the audio.
 
 use pescrondilu::Rate;
-use pescrondilu::kernels::stereo::StereoPllState;
+use pescrondilu::kernels::stereo::{StereoPllState, scan};
 
 use crate::audio::{AudioPath, Stereo};
 use crate::fault::{Fault, Outcome};
@@ -44,6 +44,8 @@ pub struct Sight {
     pub bad: usize,
     /// Pilot samples that are; the core passes over them.
     pub bad_pilot: usize,
+    /// The last of these, counted from the block's first sample.
+    pub last_bad_pilot: Option<usize>,
 }
 
 pub struct Receiver<T: Format> {
@@ -167,13 +169,15 @@ impl<T: Format> Receiver<T> {
             self.pll
                 .process_merged(&mpx[from..to], &pilot_t[from..to], l, r)
                 .map_err(core_fault)?;
+            let last_bad_pilot = last_not_finite(&pilot[from..to]);
             see(Sight {
                 samples: to - from,
                 level: self.pll.lock_level(),
                 offset_hz: self.pll.integrator() * self.settings.rate,
                 stereo: self.pll.is_stereo(),
                 bad: not_finite(&self.waiting[from..to]),
-                bad_pilot: not_finite(&pilot[from..to]),
+                bad_pilot: last_bad_pilot.map_or(0, |last| not_finite(&pilot[from..=from + last])),
+                last_bad_pilot,
             })?;
             self.done += (to - from) as u64;
             from = to;
@@ -192,6 +196,12 @@ fn not_finite(samples: &[f32]) -> usize {
     samples.iter().filter(|sample| !sample.is_finite()).count()
 }
 
+/// Where the last such sample stands, by the core's scan.
+fn last_not_finite(pilot: &[f32]) -> Option<usize> {
+    let scanned = scan(pilot);
+    (!scanned.finite).then(|| pilot.len() - scanned.read)
+}
+
 /// The lengths are ours, so a refusal of a block is a fault of this program.
 fn core_fault(why: pescrondilu::Refusal) -> Fault {
     Fault::failed("the core refused a block", why)
@@ -200,6 +210,8 @@ fn core_fault(why: pescrondilu::Refusal) -> Fault {
 #[cfg(test)]
 mod tests {
     use super::*;
+    use crate::history::{History, Totals};
+    use pescrondilu::Q15;
 
     const SETTINGS: Settings = Settings {
         rate: 192_000.0,
@@ -268,6 +280,54 @@ mod tests {
                     .take(1_000)
                     .all(|x| (x - 0.25).abs() < 1e-5)
             );
+        }
+    }
+
+    /// What the history has of a capture that is handed over in pieces, and by how many samples the
+    /// band-pass reaches to either side.
+    fn seen<T: Format>(mpx: &[f32], piece: usize) -> (Totals, usize) {
+        let mut receiver = Receiver::<T>::new(SETTINGS).unwrap();
+        let (mut history, mut audio) = (History::new(1_920), Stereo::default());
+        let mut see = |sight: Sight| {
+            assert_eq!(sight.last_bad_pilot.is_some(), sight.bad_pilot > 0);
+            assert!(sight.last_bad_pilot.is_none_or(|last| last < sight.samples));
+            history.see(sight);
+            Ok(())
+        };
+        for piece in mpx.chunks(piece) {
+            receiver.run(piece, &mut see, &mut audio).unwrap();
+        }
+        receiver.finish(&mut see, &mut audio).unwrap();
+        (*history.totals(), receiver.band.half())
+    }
+
+    #[test]
+    fn pilot_samples_that_are_not_finite_are_counted_and_the_last_is_placed() {
+        let n = 5_001;
+        for piece in [1, 100, 5_001] {
+            let (totals, half) = seen::<f32>(&vec![0.25; n], piece);
+            assert_eq!((totals.bad_pilot, totals.last_bad_pilot), (0, None));
+            for (place, pattern) in [
+                (0, 0xFFC0_0000),
+                (1_000, 0x7F80_0000),
+                (1_919, 0xFF80_0001),
+                (4_999, 0x7FFF_FFFF),
+            ] {
+                let mut mpx = vec![0.25; n];
+                mpx[place] = f32::from_bits(pattern);
+                let (totals, _) = seen::<f32>(&mpx, piece);
+                let (first, last) = (place.saturating_sub(half), (place + half).min(n - 1));
+                assert_eq!(
+                    (totals.bad, totals.bad_pilot),
+                    (1, (last - first + 1) as u64)
+                );
+                assert_eq!(totals.last_bad_pilot, Some(last as u64), "{place}");
+
+                // in Q15 the capture is rounded before the band-pass, and all of it is finite
+                let (totals, _) = seen::<Q15>(&mpx, piece);
+                assert_eq!((totals.bad, totals.bad_pilot), (1, 0));
+                assert_eq!(totals.last_bad_pilot, None);
+            }
         }
     }
 }

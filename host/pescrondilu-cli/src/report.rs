@@ -127,13 +127,16 @@ impl Report<'_> {
             return None;
         }
         let capture = format!("{} samples of the capture", totals.bad);
-        Some(match self.q15 {
-            true => format!("{capture}; in Q15 a NaN is 0 and an infinity full scale"),
-            false => format!(
-                "{capture}, {} of the pilot; they move neither level nor lamp",
-                totals.bad_pilot
-            ),
-        })
+        if self.q15 {
+            return Some(format!(
+                "{capture}; in Q15 a NaN is 0 and an infinity full scale"
+            ));
+        }
+        let mut text = format!("{capture}, {} of the pilot", totals.bad_pilot);
+        if let Some(at) = totals.last_bad_pilot {
+            let _ = write!(text, ", the last at {:.3} s", self.seconds(at));
+        }
+        Some(text + "; they move neither level nor lamp")
     }
 }
 
@@ -161,6 +164,7 @@ mod tests {
         let mut history = History::new(100);
         for &(level, stereo) in levels {
             let (samples, bad_pilot) = (100, 3 * bad);
+            let last_bad_pilot = (bad > 0).then_some(23);
             history.see(Sight {
                 samples,
                 level,
@@ -168,6 +172,7 @@ mod tests {
                 stereo,
                 bad,
                 bad_pilot,
+                last_bad_pilot,
             });
         }
         history.finish();
@@ -220,13 +225,21 @@ mod tests {
     }
 
     #[test]
-    fn what_is_not_finite_is_counted() {
+    fn what_is_not_finite_is_counted_and_the_last_dated() {
         let text = report(&[(0.03, true)], 5, false);
+        let words = "  not finite 5 samples of the capture, 15 of the pilot, the last at 0.023 s; \
+                     they move neither level nor lamp\n";
+        assert!(text.contains(words), "{text}");
+        let text = report(&[(0.03, true), (0.03, true)], 5, false);
         assert!(
-            text.contains("5 samples of the capture, 15 of the pilot"),
+            text.contains("30 of the pilot, the last at 0.123 s;"),
             "{text}"
         );
-        assert!(report(&[(0.03, true)], 5, true).contains("in Q15 a NaN is 0"));
+        let text = report(&[(0.03, true)], 5, true);
+        assert!(
+            text.contains("in Q15 a NaN is 0") && !text.contains("the last at"),
+            "{text}"
+        );
     }
 
     #[test]

@@ -173,6 +173,10 @@ fn a_burst_of_nan_passes() {
         let text = said.text();
         assert!(text.contains("1000 samples of the capture"), "{text}");
         assert!(text.contains("1 change\n"), "still stereo: {text}");
+        match format {
+            "f32" => the_last_one_is_told(&text, 96_000, 1_000),
+            _ => assert!(!text.contains("of the pilot"), "{text}"),
+        }
         assert!(audio.left.iter().chain(&audio.right).all(|x| x.is_finite()));
         let later = Audio {
             left: audio.left[26_400..].to_vec(),
@@ -184,6 +188,18 @@ fn a_burst_of_nan_passes() {
             "{format} {pattern:x}"
         );
     }
+}
+
+/// The filtered pilot is not finite a little longer than the capture, to both sides alike.
+fn the_last_one_is_told(text: &str, first: usize, samples: usize) {
+    let head = format!("{samples} samples of the capture, ");
+    let rest = text.split(&head).nth(1).unwrap();
+    let (pilot, rest) = rest.split_once(" of the pilot, the last at ").unwrap();
+    let more = pilot.parse::<usize>().unwrap() - samples;
+    assert!(more > 0 && more.is_multiple_of(2), "{text}");
+    let last = first + samples - 1 + more / 2;
+    let seconds = format!("{:.3} s; they move", last as f64 / f64::from(RATE));
+    assert!(rest.starts_with(&seconds), "{seconds} in {text}");
 }
 
 #[test]

@@ -68,6 +68,16 @@ layout!(
     integrator 0, integrator_limit 8, lock_level 16, phase 24, stereo 28, enabled 32
 );
 
+/// What a scan of an f32 pilot tells. The switch is 0 or 1.
+#[repr(C)]
+#[derive(Clone, Copy, Debug, PartialEq, Eq)]
+pub struct Scanned {
+    pub finite: u32,
+    pub read: usize,
+}
+
+layout!(Scanned, 16, finite 0, read 8);
+
 type New<V> = extern "C" fn(f64, f64, f64, f64, f64) -> Coded<V>;
 type Set<V> = extern "C" fn(Decoder<V>) -> Decoder<V>;
 type Read<V> = extern "C" fn(Decoder<V>) -> Readout;
@@ -218,6 +228,10 @@ format!(
     pescrondilu_matrix_q15
 );
 
+unsafe extern "C" {
+    pub fn pescrondilu_f32_scan(pilot: *const f32, pilot_n: usize) -> Scanned;
+}
+
 // SAFETY, for each call below: a pointer and a length are those of one slice, and no output
 // overlaps another argument.
 
@@ -277,6 +291,11 @@ pub fn merged_block<S: Sample>(
             right.len(),
         )
     }
+}
+
+#[inline]
+pub fn scan(pilot: &[f32]) -> Scanned {
+    unsafe { pescrondilu_f32_scan(pilot.as_ptr(), pilot.len()) }
 }
 
 #[inline]

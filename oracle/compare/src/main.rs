@@ -6,11 +6,13 @@
 //!                           float, N NaNs; N is 4000000 where it is not given
 //!     compare stereo [N]    lookup, correction, oscillator, matrix, encoders and verdict, and N
 //!                           sessions of each record (20000)
-//!     compare decoder [N]   the decoder: constructions, and N sessions of each kind (20000)
+//!     compare decoder [N]   the decoder: constructions, N sessions of each kind (20000), and the
+//!                           scan of the pilot
 //!     compare rds [N]       every block of 26 bits, and N sessions of each kind of the group
 //!                           former (200000)
 //!     compare every         every input of each function whose arguments have 32 bits in all
-//!     compare every-stereo  every f32 of the corrections, every pair of the Q15 matrix
+//!     compare every-stereo  every f32 of the corrections and of the scan, every pair of the Q15
+//!                           matrix
 
 mod decoder;
 mod encoder;
@@ -18,6 +20,7 @@ mod numbers;
 mod part;
 mod rds;
 mod record;
+mod scan;
 mod sessions;
 mod stereo;
 
@@ -147,7 +150,10 @@ fn main() {
     };
     let some = |f| compare_some(f, count.unwrap_or(4_000_000));
     let stereo = || stereo::compare(count.unwrap_or(20_000));
-    let decoder = || decoder::compare(count.unwrap_or(20_000));
+    let decoder = || {
+        let count = count.unwrap_or(20_000);
+        decoder::compare(count) & scan::compare(200 * count)
+    };
     let rds = || rds::compare(count.unwrap_or(200_000));
     let equal = match what.as_deref() {
         None => helpers(some) & stereo() & decoder() & rds(),
@@ -156,7 +162,9 @@ fn main() {
         Some("decoder") => decoder(),
         Some("rds") => rds(),
         Some("every") => helpers(compare_every),
-        Some("every-stereo") => stereo::every_correction() & stereo::every_matrix_q15(),
+        Some("every-stereo") => {
+            stereo::every_correction() & stereo::every_matrix_q15() & scan::every()
+        }
         Some(_) => usage(),
     };
     if !equal {

@@ -22,6 +22,8 @@ pub struct Part {
     pub stopped: u64,
     // groups of version B that were accepted
     pub version_b: u64,
+    // pilots of which the scan says that a sample is not finite
+    pub not_finite: u64,
     // how many of our answers are a refusal, by its number
     refused: BTreeMap<u64, u64>,
     differences: u64,
@@ -38,6 +40,7 @@ impl Part {
             alone: 0,
             stopped: 0,
             version_b: 0,
+            not_finite: 0,
             refused: BTreeMap::new(),
             differences: 0,
         }
@@ -114,6 +117,9 @@ impl Part {
         }
         if self.stopped > 0 {
             print!(", {} where Fallback does not stop", self.stopped);
+        }
+        if self.not_finite > 0 {
+            print!(", {} not finite", self.not_finite);
         }
         if self.version_b > 0 {
             print!(", {} accepted of version B", self.version_b);

@@ -456,6 +456,12 @@ static void decoders(void)
         put_q15(r.decoder);
         put_outputs();
     })
+    EACH(pescrondilu_f32_scan, {
+        fill();
+        pescrondilu_f32_scanned s = pescrondilu_f32_scan(in1, length(N, 5));
+        put32(s.finite);
+        put64(s.read);
+    })
     EACH(pescrondilu_matrix_f32, {
         fill();
         put_answer(pescrondilu_matrix_f32(in1, N, in2, length(N, 5), out1, length(N, 6), out2,

@@ -470,6 +470,13 @@ impl Calls {
         self.put_outputs();
     }
 
+    fn f32_scan(&mut self) {
+        self.fill();
+        let s = unsafe { pescrondilu_f32_scan(self.in1.as_ptr(), self.length(N, 5)) };
+        self.put32(s.finite);
+        self.put64(s.read as u64);
+    }
+
     fn matrix_f32(&mut self) {
         self.fill();
         let a = unsafe {
@@ -629,6 +636,7 @@ impl Calls {
         self.each("pescrondilu_q15_merged_block", |t| {
             t.q15_block(Which::Merged)
         });
+        self.each("pescrondilu_f32_scan", Calls::f32_scan);
         self.each("pescrondilu_matrix_f32", Calls::matrix_f32);
         self.each("pescrondilu_matrix_q15", Calls::matrix_q15);
     }
@@ -912,7 +920,7 @@ fn the_calls_cover_the_library() {
             _ if name.ends_with("_block") => &[0, 109, 110, 111],
             "pescrondilu_encode_set_pilot" | "pescrondilu_encode_rds_set_pilot" => &[0, 114],
             "pescrondilu_encode_rds_set_rds" => &[0, 116],
-            "pescrondilu_on_air" => &[0, 1],
+            "pescrondilu_on_air" | "pescrondilu_f32_scan" => &[0, 1],
             "pescrondilu_q14_from_f64" => &[0, 118],
             "pescrondilu_rds_group" => &[0, 111, 119],
             "pescrondilu_rds_former_new" => &[0],

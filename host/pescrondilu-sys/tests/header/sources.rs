@@ -36,7 +36,7 @@ impl Declared {
 }
 
 /// A struct in C, in Rattle and in Rust.
-pub const STRUCTS: [(&str, &str, &str); 22] = [
+pub const STRUCTS: [(&str, &str, &str); 23] = [
     ("pescrondilu_answer", "Code", "Code"),
     ("pescrondilu_f32", "DecoderF32", "Decoder<f32>"),
     ("pescrondilu_q15", "DecoderQ15", "Decoder<i64>"),
@@ -45,6 +45,7 @@ pub const STRUCTS: [(&str, &str, &str); 22] = [
     ("pescrondilu_f32_reply", "ReplyF32", "Reply<f32>"),
     ("pescrondilu_q15_reply", "ReplyQ15", "Reply<i64>"),
     ("pescrondilu_readout", "Readout", "Readout"),
+    ("pescrondilu_f32_scanned", "ScannedF32", "Scanned"),
     ("pescrondilu_nco", "Nco", "Nco"),
     ("pescrondilu_increment", "CodedIncrement", "CodedIncrement"),
     ("pescrondilu_nco_made", "CodedNco", "CodedNco"),

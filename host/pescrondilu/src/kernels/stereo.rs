@@ -1,4 +1,5 @@
-//! FM stereo: the pilot loop, the matrix, the multiplex encoders, the on-air verdict.
+//! FM stereo: the pilot loop, the scan of its pilot, the matrix, the multiplex encoders, the on-air
+//! verdict.
 //!
 //! The states have calls over slices: `process` with the crate's table, `process_with` with a lent
 //! one; the pilot loop also `process_merged`, which gives left and right at once. They copy nothing
@@ -10,10 +11,12 @@ mod decoder;
 mod encoder;
 mod matrix;
 mod pairs;
+mod scan;
 
 pub use decoder::{StereoPll, StereoPllCoefficients, StereoPllState};
 pub use encoder::{StereoEncode, StereoEncodeRds, StereoEncodeRdsState, StereoEncodeState, on_air};
 pub use matrix::{StereoMatrix, matrix};
+pub use scan::{Scanned, scan};
 
 /// A decoder's record as the core has it, over f32 or, for Q15, over i64. A switch is off at 0 and
 /// on at anything else.

@@ -1,8 +1,9 @@
 use borrow.Author.Needs.{needs}
-use mathlib.Core.Path.{refl, sym, _∙_}
+use mathlib.Core.Path.{refl}
 use Rattle.answers.specs.Answer.{says}
 use Rattle.decoder.specs.F32.{f32}
 use Rattle.decoder_record.specs.Records.{pllF32}
+use Rattle.pilot_scan.proofs.Claims.{told}
 use Rattle.decoder.proofs.Blocks.{refused, whole-table, runs, ran}
 use Rattle.decoder.proofs.fast.block.Statement.{statement}
 use Rattle.decoder.proofs.fast.block.Tie as tie
@@ -35,7 +36,7 @@ run-clean-requires c κs =
     let l = s .before in
     let a = start l .args in
     let k = runs f32 (a .table .now) (a .mpx .now) (a .pilot .now) (a .sum .now) (a .difference .now) (pllF32 (a .d)) refl (says (l .block-lengths .result)) (l .block-lengths .ensures) (s .is-accepted .ensures) (e .if1 .left) in
-    (k .0, k .1, k .2, sym (i .before .scan .ensures) ∙ i .if2 .taken)
+    (k .0, k .1, k .2, told (a .pilot .now) (i .before .scan .result) (i .before .scan .ensures) (i .if2 .taken))
 
 returns-2 : tie.Need-returns-2
 returns-2 c =

@@ -5,8 +5,8 @@ use lib.Ieee.{binary32, isNan}
 use lib.Ieee.Compare.{differs-from-itself}
 use lib.Ieee.Scale.{finite}
 use Rattle.rounding.proofs.Own.{not-nan, finite-test}
-use Rattle.decoder_parts.proofs.finite.is_finite_pattern.Statement.{statement}
-use Rattle.decoder_parts.proofs.finite.is_finite_pattern.Tie as tie
+use Rattle.pilot_scan.proofs.is_finite_pattern.Statement.{statement}
+use Rattle.pilot_scan.proofs.is_finite_pattern.Tie as tie
 
 real : (c : tie.Else1) → T (not (isNan (c .before .args .x)))
 real c = not-nan (c .before .args .x) (c .if1 .left)

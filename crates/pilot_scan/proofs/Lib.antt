@@ -1,0 +1,4 @@
+pub mod Finite
+pub mod Claims
+pub mod Loops
+pub mod Free
