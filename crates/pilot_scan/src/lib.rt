@@ -42,7 +42,7 @@ fn all_finite(samples: &[f32]) -> bool
     ok
 }
 
-// A place from which on every sample is finite: 0, or the end of the last chunk that has another one.
+// A place from which on every sample is finite: 0, or the end of the last chunk with one that is not.
 fn finite_from(pilot: &[f32]) -> usize
     ensures { λ r. ⌜ (r ≤ length (now (pilot .entry))) × (allFinite (drop r (now (pilot .entry))) ≡ true) ⌝ }
 {
@@ -59,7 +59,8 @@ fn finite_from(pilot: &[f32]) -> usize
     end
 }
 
-// The scan. It leaves at the last sample that is not finite, or with all of them read.
+// The scan. It leaves at the last sample that is not finite, or with all of them read. The return
+// before the loop, which would end at once there, is for time alone.
 pub fn scan(pilot: &[f32]) -> Scanned
     ensures { λ r. ⌜ r ≡ scanOf (now (pilot .entry)) ⌝ }
 {
