@@ -2,7 +2,7 @@
 use Prim.Native.Nat.{suc, _+_}
 use mathlib.Core.Path.{_≡_, refl, sym, _∙_, ap}
 use mathlib.Core.List.{List, [], _∷_, _++_, reverse, reverse-cons, reverse-append, append-assoc, append-nil}
-use mathlib.Core.Bool.{Bool, true, false, _&&_, false≢true}
+use mathlib.Core.Bool.{Bool, true, false, _&&_, and-true, false≢true}
 use native.Mathlib.Nat.{add-zero, zero-add, suc-add}
 use native.Mathlib.Numerals.{add-one}
 use lib.ListN.{length, length-reverse}
@@ -12,7 +12,7 @@ use Rattle.answers.proofs.Tests.{and-out}
 use Rattle.decoder_parts.specs.Rules.{allFinite}
 use Rattle.pilot_scan.specs.declared.Scanned.{Scanned}
 use Rattle.pilot_scan.specs.Scan.{readOf, scanOf, Last, Claims}
-use Rattle.pilot_scan.proofs.Finite.{and-true, all-append}
+use Rattle.pilot_scan.proofs.Finite.{all-append}
 
 -- finite samples are finite in the other order too
 all-reverse : (ps : List Float) → allFinite ps ≡ true → allFinite (reverse ps) ≡ true

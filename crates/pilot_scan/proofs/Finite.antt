@@ -2,7 +2,7 @@
 use Prim.Native.Nat.{ℕ, _+_, _≤_, _<_}
 use mathlib.Core.Path.{_≡_, refl, sym, _∙_}
 use mathlib.Core.List.{List, [], _∷_, _++_}
-use mathlib.Core.Bool.{Bool, true, false, _&&_}
+use mathlib.Core.Bool.{Bool, _&&_, and-assoc, and-true}
 use native.Mathlib.Nat.{le-antisymm}
 use native.Mathlib.Numerals.{add-one}
 use lib.ListN.{length, drop, getD}
@@ -10,14 +10,6 @@ use lib.Seq.{drop-cons, drop-length}
 use lib.Ieee.{Float, nan}
 use lib.Ieee.Scale.{finite}
 use Rattle.decoder_parts.specs.Rules.{allFinite}
-
-and-assoc : (a b c : Bool) → (a && b) && c ≡ a && (b && c)
-and-assoc true b c = refl
-and-assoc false b c = refl
-
-pub and-true : (a : Bool) → a && true ≡ a
-and-true true = refl
-and-true false = refl
 
 -- one more sample of a loop that carries a flag
 pub all-next : (ps : List Float) (i : ℕ) (ok b : Bool) → i < length ps → allFinite ps ≡ ok && allFinite (drop i ps) → b ≡ finite (getD ps i nan) → allFinite ps ≡ (ok && b) && allFinite (drop (i + 1) ps)

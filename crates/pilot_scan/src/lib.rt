@@ -14,7 +14,7 @@ pub struct Scanned {
     pub read: usize,
 }
 
-// Samples that are tested as one, since a test of each alone costs the fast block 4 per cent.
+// Samples that are tested as one, since a test of each alone costs the fast block 3 to 4 per cent.
 const CHUNK: usize = 32;
 
 // Whether x is finite, by its pattern with the sign bit masked off; a NaN has no pattern to look
