@@ -1,7 +1,7 @@
 /*
- * The proved FM stereo core: pilot loop with stereo decision, scan of the pilot, matrix, multiplex
- * encoders, oscillator, on-air verdict and RDS group former, in libpescrondilu.a. x86-64 Linux,
- * System V calls; C99 or C++.
+ * The proved FM stereo core: pilot loop with stereo decision, summary of its periods, scan of the
+ * pilot, matrix, multiplex encoders, oscillator, on-air verdict and RDS group former, in
+ * libpescrondilu.a. x86-64 Linux, System V calls; C99 or C++.
  *
  *     cc program.c -Iinclude -Ltarget/staticlib -lpescrondilu -lm
  *
@@ -18,14 +18,15 @@
  *
  * What the caller gets
  *   - Every call ends. Nothing is allocated, locked, or kept from one call to the next: all that a
- *     decoder, an encoder or a group former remembers is in its record, which the caller holds.
+ *     decoder, a summary, an encoder or a group former remembers is in its record, which the caller
+ *     holds.
  *   - Records go in and out by value. A call changes no record that it is handed; the next one
  *     comes back: d = pescrondilu_f32_reset(d);
  *   - Calls on different records may run on different threads, with one table for all of them.
  *   - Any bits are taken in records, parameters, tables and samples, NaN and infinities included.
  *     A NaN that comes back may have other bits than the one that went in.
- *   - A switch (stereo, enabled, carried) is a uint32_t, off at 0 and on at anything else. It
- *     comes back as 0 or 1.
+ *   - A switch (a decoder's stereo and enabled, before, carried) is a uint32_t, off at 0 and on at
+ *     anything else. It comes back as 0 or 1.
  *   - A record's read-outs are its fields. The read call gives a decoder's in the same units for
  *     both formats.
  *
@@ -46,7 +47,8 @@
  *    8   108   Q15 decoder: ki or beta becomes 0
  *    9   109   the table's length is not PESCRONDILU_TABLE_LENGTH
  *   10   110   a further input's length differs from the first input's
- *   11   111   an output's length differs from the first input's; a group's: from 104
+ *   11   111   an output's length differs from the first input's; a group's: from 104; that of a
+ *              summary's figures: from the number of periods that end in the block
  *   12   112   encoder: the pilot frequency is not in 18000 to 20000 Hz
  *   13   113   encoder: the main gain is not in 0 to 1
  *   14   114   encoder: the pilot amplitude is not in 0 to 0.2
@@ -55,9 +57,10 @@
  *   17   117   oscillator: frequency / rate is not finite
  *   18   118   the value is outside Q14
  *   19   119   group: word three differs from word one, and bit 11 of word two is set
+ *   20   120   summary: the period is 0, or the record was filled in by hand and is unfit
  *
- *   What is left: a refused block or group gives its record back as it was (the switches as 0 or
- *   1) and writes to no output. A refused set call gives the record back as it was. A refused
+ *   What is left: a refused block or group gives its records back as they were (the switches as 0
+ *   or 1) and writes to no output. A refused set call gives the record back as it was. A refused
  *   construction gives zeros.
  */
 #ifndef PESCRONDILU_H
@@ -100,7 +103,7 @@ typedef struct pescrondilu_answer {
     size_t got;
 } pescrondilu_answer;
 
-/* ---- What a receiver calls: decoders, scan, matrix, verdict ---------------------------------- */
+/* ---- What a receiver calls: decoders, summary, scan, matrix, verdict ------------------------- */
 
 /*
  * A decoder in float: the gains, the integrator, the lock level with its two thresholds, the step
@@ -263,6 +266,86 @@ pescrondilu_q15_reply pescrondilu_q15_merged_block(
     pescrondilu_q15 d, const int16_t *table, size_t table_n, const int16_t *mpx, size_t mpx_n,
     const int16_t *pilot, size_t pilot_n, int16_t *PESCRONDILU_RESTRICT left, size_t left_n,
     int16_t *PESCRONDILU_RESTRICT right, size_t right_n);
+
+/*
+ * A summary of the decoder's samples, in periods of a chosen number of them: the period, then what
+ * is held of the unfinished one. That is its stereo samples, its mono samples, the changes of the
+ * decision, and the largest magnitude of the difference. before is a switch, the decision of the
+ * sample before. It is the summary's own, so that the mono after a reset of a decoder in stereo is
+ * a change like any other.
+ */
+typedef struct pescrondilu_f32_summary {
+    uint32_t period;
+    uint32_t stereo;
+    uint32_t mono;
+    uint32_t changes;
+    float magnitude;
+    uint32_t before;
+} pescrondilu_f32_summary;
+
+typedef struct pescrondilu_q15_summary {
+    uint32_t period;
+    uint32_t stereo;
+    uint32_t mono;
+    uint32_t changes;
+    int16_t magnitude;
+    uint32_t before;
+} pescrondilu_q15_summary;
+
+/* What a block with its summary answers, and the decoder and the summary after it. */
+typedef struct pescrondilu_f32_summary_reply {
+    pescrondilu_answer answer;
+    pescrondilu_f32 decoder;
+    pescrondilu_f32_summary summary;
+} pescrondilu_f32_summary_reply;
+
+typedef struct pescrondilu_q15_summary_reply {
+    pescrondilu_answer answer;
+    pescrondilu_q15 decoder;
+    pescrondilu_q15_summary summary;
+} pescrondilu_q15_summary_reply;
+
+/*
+ * A summary with periods of this many samples. It holds nothing, and mono stands before its first
+ * sample. Never refused; with a period of 0 every block is (cause 20).
+ */
+pescrondilu_f32_summary pescrondilu_f32_summary_new(uint32_t period);
+pescrondilu_q15_summary pescrondilu_q15_summary_new(uint32_t period);
+
+/*
+ * What pescrondilu_f32_block gives, and beside it the figures of each period that ends in the
+ * block: stereo samples, mono samples, changes of the decision from one sample to the next, and the
+ * largest magnitude of the difference. They go by the decision after each sample, so that a
+ * disabled decoder has stereo samples too; its difference is 0, and with it the magnitude. The
+ * magnitude begins each period at 0, passes over a NaN and counts an infinity.
+ *
+ * The figures of the first period that ends stand at place 0 of stereo, mono, changes and
+ * magnitude, and so on. Each of the four has exactly as many places as periods end, which is
+ * (s.stereo + s.mono + mpx_n) / s.period, rounded down. Often that is 0; the pointers are not NULL
+ * then either. What is left of the block stays in the summary, and the next block goes on with it.
+ * How a signal is cut into blocks makes no difference.
+ *
+ * Causes 20; 9; 10 for pilot; 11 for sum, for difference, then for stereo, mono, changes and
+ * magnitude. 20 is in force where the period is 0, or the samples held (stereo + mono) reach it, or
+ * more changes are held than samples; where the magnitude is NaN or has its sign bit set; or where
+ * it is not 0 and no sample is held.
+ */
+pescrondilu_f32_summary_reply pescrondilu_f32_summary_block(
+    pescrondilu_f32 d, pescrondilu_f32_summary s, const float *table, size_t table_n,
+    const float *mpx, size_t mpx_n, const float *pilot, size_t pilot_n,
+    float *PESCRONDILU_RESTRICT sum, size_t sum_n, float *PESCRONDILU_RESTRICT difference,
+    size_t difference_n, uint32_t *PESCRONDILU_RESTRICT stereo, size_t stereo_n,
+    uint32_t *PESCRONDILU_RESTRICT mono, size_t mono_n, uint32_t *PESCRONDILU_RESTRICT changes,
+    size_t changes_n, float *PESCRONDILU_RESTRICT magnitude, size_t magnitude_n);
+
+/* The same in fixed point. Causes 20, 0, then as in float. A held magnitude below 0 is unfit. */
+pescrondilu_q15_summary_reply pescrondilu_q15_summary_block(
+    pescrondilu_q15 d, pescrondilu_q15_summary s, const int16_t *table, size_t table_n,
+    const int16_t *mpx, size_t mpx_n, const int16_t *pilot, size_t pilot_n,
+    int16_t *PESCRONDILU_RESTRICT sum, size_t sum_n, int16_t *PESCRONDILU_RESTRICT difference,
+    size_t difference_n, uint32_t *PESCRONDILU_RESTRICT stereo, size_t stereo_n,
+    uint32_t *PESCRONDILU_RESTRICT mono, size_t mono_n, uint32_t *PESCRONDILU_RESTRICT changes,
+    size_t changes_n, int16_t *PESCRONDILU_RESTRICT magnitude, size_t magnitude_n);
 
 /*
  * Scans a pilot from its end, as the float blocks of the fast way do themselves, for a caller that

@@ -230,14 +230,16 @@ fn beside_original() {
         println!("encode_rds  {n:5} {:.3}", encoder(n, true));
     }
     decoder::run();
+    decoder::summary::run();
 }
 
 fn main() {
     match std::env::args().nth(1).as_deref() {
         None => beside_original(),
         Some("before") => beside_earlier(),
+        Some("summary") => decoder::summary::run(),
         Some(_) => {
-            eprintln!("usage: bench [before]");
+            eprintln!("usage: bench [before | summary]");
             std::process::exit(2);
         }
     }

@@ -71,6 +71,32 @@ FIELD(pescrondilu_readout, phase, 24);
 FIELD(pescrondilu_readout, stereo, 28);
 FIELD(pescrondilu_readout, enabled, 32);
 
+SIZE(pescrondilu_f32_summary, 24);
+FIELD(pescrondilu_f32_summary, period, 0);
+FIELD(pescrondilu_f32_summary, stereo, 4);
+FIELD(pescrondilu_f32_summary, mono, 8);
+FIELD(pescrondilu_f32_summary, changes, 12);
+FIELD(pescrondilu_f32_summary, magnitude, 16);
+FIELD(pescrondilu_f32_summary, before, 20);
+
+SIZE(pescrondilu_q15_summary, 24);
+FIELD(pescrondilu_q15_summary, period, 0);
+FIELD(pescrondilu_q15_summary, stereo, 4);
+FIELD(pescrondilu_q15_summary, mono, 8);
+FIELD(pescrondilu_q15_summary, changes, 12);
+FIELD(pescrondilu_q15_summary, magnitude, 16);
+FIELD(pescrondilu_q15_summary, before, 20);
+
+SIZE(pescrondilu_f32_summary_reply, 96);
+FIELD(pescrondilu_f32_summary_reply, answer, 0);
+FIELD(pescrondilu_f32_summary_reply, decoder, 24);
+FIELD(pescrondilu_f32_summary_reply, summary, 72);
+
+SIZE(pescrondilu_q15_summary_reply, 128);
+FIELD(pescrondilu_q15_summary_reply, answer, 0);
+FIELD(pescrondilu_q15_summary_reply, decoder, 24);
+FIELD(pescrondilu_q15_summary_reply, summary, 104);
+
 SIZE(pescrondilu_f32_scanned, 16);
 FIELD(pescrondilu_f32_scanned, finite, 0);
 FIELD(pescrondilu_f32_scanned, read, 8);

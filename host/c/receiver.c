@@ -19,6 +19,7 @@
 #define BLOCK 1920     /* 10 ms */
 #define TOTAL 96000    /* half a second, a whole number of blocks */
 #define MEASURED 19200 /* the last 100 ms: whole periods of both tones */
+#define PERIOD 3840    /* 20 ms, of a summary */
 #define LEFT_HZ 1000.0
 #define RIGHT_HZ 400.0
 #define TONE 0.3 /* so that left and right, three times the multiplex at most, stay in Q15 */
@@ -178,6 +179,40 @@ static void receive_q15(void)
               tone_q15(right_q15, RIGHT_HZ), tone_q15(left_q15, RIGHT_HZ));
 }
 
+/*
+ * The same with a summary beside sum and difference, for a log. A block ends one period or none, and
+ * the columns have as many places.
+ */
+static void summarize(void)
+{
+    static float sum[BLOCK], difference[BLOCK];
+    uint32_t stereo[1], mono[1], changes[1];
+    float magnitude[1];
+    pescrondilu_f32 d =
+        pescrondilu_f32_new(PILOT_HZ, 20, PILOT, lock_coefficient(), RATE).decoder;
+    pescrondilu_f32_summary s = pescrondilu_f32_summary_new(PERIOD);
+    unsigned periods = 0, changed = 0, where = 0;
+    for (int at = 0; at < TOTAL; at += BLOCK) {
+        size_t ending = (s.stereo + s.mono + (size_t)BLOCK) / s.period;
+        pescrondilu_f32_summary_reply reply = pescrondilu_f32_summary_block(
+            d, s, table, PESCRONDILU_TABLE_LENGTH, mpx + at, BLOCK, pilot + at, BLOCK, sum, BLOCK,
+            difference, BLOCK, stereo, ending, mono, ending, changes, ending, magnitude, ending);
+        expect(reply.answer.code == 0, "the block with its summary is accepted");
+        d = reply.decoder;
+        s = reply.summary;
+        if (ending == 0)
+            continue;
+        periods++;
+        changed += changes[0];
+        where = changes[0] > 0 ? periods : where;
+        expect(stereo[0] + mono[0] == PERIOD, "each sample is stereo or mono");
+        expect((magnitude[0] > 0) == (stereo[0] > 0), "there is a difference in stereo only");
+    }
+    printf("summary: %u periods of 20 ms, %u change, in period %u\n", periods, changed, where);
+    expect(periods == TOTAL / PERIOD && changed == 1 && where == 2, "the lamp goes on once");
+    expect(stereo[0] == PERIOD && s.before == 1, "and stays on");
+}
+
 /* A block with a pilot one sample short is refused, and nothing changes. */
 static void refuse(pescrondilu_f32 d)
 {
@@ -249,6 +284,7 @@ int main(void)
     make_multiplex();
     pescrondilu_f32 d = receive_f32();
     receive_q15();
+    summarize();
     refuse(d);
     use_switches(d);
     puts(wrong ? "not all is as expected" : "all is as expected");

@@ -30,7 +30,7 @@ module _ {A : Type 0} where
   length-samples zero f = refl
   length-samples (suc n) f = omega (arith, length-append (samples n f) (f n ∷ []), length-samples n f)
 
-  sample-at : (n : ℕ) (f : ℕ → A) (z : A) (i : ℕ) → i < n → getD (samples n f) i z ≡ f i
+  pub sample-at : (n : ℕ) (f : ℕ → A) (z : A) (i : ℕ) → i < n → getD (samples n f) i z ≡ f i
   unfolding samples
   sample-at zero f z i h = absurd (none i h)
     where

@@ -21,6 +21,8 @@ pub enum Answer {
     Accepted,
     // a Q15 decoder's record is unfit
     Unfit,
+    // a summary's record is none that a call leaves
+    Summary,
     // the table's length
     Table(usize),
     // the first input's length, and that of the input at fault
@@ -44,6 +46,7 @@ pub fn is_accepted(a: Answer) -> bool
     match a {
         Answer::Accepted => true,
         Answer::Unfit => false,
+        Answer::Summary => false,
         Answer::Table(_) => false,
         Answer::Input(_, _) => false,
         Answer::Output(_, _) => false,
@@ -94,6 +97,11 @@ pub fn code_of(a: Answer) -> Code
         },
         Answer::Unfit => Code {
             code: 100,
+            expected: 0,
+            got: 0,
+        },
+        Answer::Summary => Code {
+            code: 120,
             expected: 0,
             got: 0,
         },

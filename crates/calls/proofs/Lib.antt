@@ -2,7 +2,12 @@ pub mod Events
 pub mod History
 pub mod LimitQ15
 pub mod LimitF32
+pub mod Steps
 pub mod Agreement
+pub mod Allowed
+pub mod Periods
+pub mod Gathering
+pub mod Summaries
 pub mod Functions
 pub mod Witness
 pub mod Demand

@@ -10,10 +10,11 @@ use lib.Ieee.{Float, nan, inf, fin}
 use Rattle.answers.specs.Answer.{accepted, entries}
 use Rattle.phase.specs.Lookup.{cosQ15}
 use Rattle.phase.specs.Correction.{correctionOf}
-use Rattle.matrix.specs.Matrix.{leftQ15, rightQ15, filledQ15}
+use Rattle.matrix.specs.Matrix.{leftQ15, rightQ15}
 use Rattle.encoder.specs.Multiplex.{multiplexOf}
 use Rattle.decoder_record.specs.State.{Pll}
 use Rattle.decoder_q15.specs.Q15.{q15}
+use Rattle.calls.specs.Cores.{coreQ15}
 use Rattle.calls.specs.Calls.{Brought, Call, block, merged, Left, leaving, machine}
 
 -- a row: what is asked, and what document 01 says
@@ -33,7 +34,7 @@ abbrev pub Says : Case → Type 0
 Says (lookup a b p want) = cosQ15 (a ∷ b ∷ replicate 4095 (pos 0)) p ≡ want
 Says (correction f want) = correctionOf f ≡ want
 Says (matrix s d left right) = (leftQ15 s d ≡ left) × (rightQ15 s d ≡ right)
-Says (calls d cs want) = machine q15 filledQ15 d cs ≡ want
+Says (calls d cs want) = machine coreQ15 d cs ≡ want
 Says (multiplex v main pilot phase left right want) =
     multiplexOf (replicate entries v) main pilot phase left right ≡ want
 

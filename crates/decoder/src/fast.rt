@@ -47,7 +47,7 @@ fn correction_clean(f: f32) -> u32
 }
 
 // One sample whose pilot may not be finite.
-fn step_checked(table: &[f32], d: StereoPllF32, x: f32, p: f32) -> StepF32
+pub fn step_checked(table: &[f32], d: StereoPllF32, x: f32, p: f32) -> StepF32
     ensures { λ r. ⌜ record { sum = x; difference = r .difference; pll = pllF32 (r .next) }
         ≡ stepOf f32 (now (table .entry)) (pllF32 d) x p ⌝ }
 {

@@ -2,9 +2,11 @@
 -- show, by F's `requires`. Assumes nothing.
 use mathlib.Core.Path.{_≡_, refl}
 use Rattle.decoder_q15.proofs.fast.block.Reads as fast-block
+use Rattle.decoder_q15.proofs.fast.step_checked.Reads as step-checked
 use Rattle.decoder_q15.proofs.plain.block.Reads as plain-block
 
 pub nothing-asked :
     (fast-block.Asked ≡ λ κs a. Unit {0})
+    × (step-checked.Asked ≡ λ κs a. Unit {0})
     × (plain-block.Asked ≡ λ κs a. Unit {0})
-nothing-asked = (refl, refl)
+nothing-asked = (refl, refl, refl)

@@ -26,7 +26,7 @@ ghost use Rattle.numbers.specs.Integers.{sat16Of, roundShiftOf};
 ghost use Rattle.answers.specs.Answer.{says, accepted};
 ghost use Rattle.decoder.specs.Machine.{stepOf, runOf, blockOf};
 ghost use Rattle.decoder_record.specs.Fit.{levelFit, fitQ15};
-ghost use Rattle.decoder_q15.specs.Q15.{q15, levelQ15};
+ghost use Rattle.decoder_q15.specs.Q15.{q15, levelQ15, stepIfFit};
 ghost use Rattle.decoder_record.specs.Records.{pllQ15};
 
 // The level after a sample.
@@ -87,6 +87,20 @@ fn step(table: &[i16], d: StereoPllQ15, x: i16, p: i16) -> StepQ15
     StepQ15 {
         next,
         difference: selected(next.stereo & next.enabled, demodulated(x, s2)),
+    }
+}
+
+// One sample of a decoder that may be unfit, which then stays as it is.
+pub fn step_checked(table: &[i16], d: StereoPllQ15, x: i16, p: i16) -> StepQ15
+    ensures { λ r. ⌜ record { sum = x; difference = r .difference; pll = pllQ15 (r .next) }
+        ≡ stepIfFit (now (table .entry)) (pllQ15 d) x p ⌝ }
+{
+    if is_fit(d) {
+        return step(table, d, x, p);
+    }
+    StepQ15 {
+        next: d,
+        difference: 0,
     }
 }
 

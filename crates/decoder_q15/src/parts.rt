@@ -106,7 +106,7 @@ pub(crate) fn advanced(
 }
 
 // Cause 0 before them; `fit` says whether a Q15 block takes the record.
-pub(crate) fn block_answer(
+pub fn block_answer(
     fit: bool,
     table: usize,
     mpx: usize,

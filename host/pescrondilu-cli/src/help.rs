@@ -9,9 +9,9 @@ pescrondilu: FM stereo multiplex, decoded and encoded by a proved core
   pescrondilu help [COMMAND]             options and examples of a command
   pescrondilu --version
 
-The pilot loop with its stereo decision, the scan of the pilot, the matrix, the encoder and the RDS
-group former are calls of the proved core. The filters around them and the pulses of RDS are not
-proved.
+The pilot loop with its stereo decision, the figures of its log, the scan of the pilot, the matrix,
+the encoder and the RDS group former are calls of the proved core. The filters around them and the
+pulses of RDS are not proved.
 
 Exit codes: 0 done, 1 failed, 2 called wrongly.
 ";
@@ -32,7 +32,10 @@ Files
   --channel N         of a WAV file with more than one, counted from 1
   --log FILE          the lamp's history as CSV: start and end of the period, least and highest
                       level, lamp at its end, changes, samples of the capture and of the filtered
-                      pilot that are NaN or infinite, the pilot's offset from 19 kHz
+                      pilot that are NaN or infinite, the pilot's offset from 19 kHz, stereo
+                      samples, mono samples, the difference's largest magnitude before its low-pass.
+                      Changes, samples and difference are the core's, from sample to sample; the
+                      level is looked at every millisecond, and so is the lamp for the report
   --plot FILE         the lamp's history as a picture (SVG)
   --title TEXT        of the picture
   --period MS         of log and picture (100)

@@ -13,6 +13,7 @@ pub struct Period {
     pub highest: f64,
     /// The lamp at the end.
     pub stereo: bool,
+    /// Of the lamp, as it was seen after each block.
     pub changes: u64,
     /// Capture samples that are NaN or infinite.
     pub bad: u64,
@@ -250,6 +251,7 @@ mod tests {
             bad,
             bad_pilot: 2 * bad,
             last_bad_pilot: (bad > 0).then_some(7),
+            figures: None,
         }
     }
 

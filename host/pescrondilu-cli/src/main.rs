@@ -7,6 +7,7 @@ mod demo;
 mod draft;
 mod encode;
 mod fault;
+mod figures;
 mod filter;
 mod format;
 mod help;

@@ -1,11 +1,12 @@
 //! A stereo receiver from the multiplex on: the pilot's band-pass, the proved loop with its matrix,
-//! then the audio.
+//! for a log also its summary, then the audio.
 
 use pescrondilu::Rate;
 use pescrondilu::kernels::stereo::{StereoPllState, scan};
 
 use crate::audio::{AudioPath, Stereo};
 use crate::fault::{Fault, Outcome};
+use crate::figures::{Counter, Figures};
 use crate::filter::design::band_pass;
 use crate::filter::fir::Fir;
 use crate::format::{Format, fill, fill_f32, fill_multiplex};
@@ -29,6 +30,9 @@ pub struct Settings {
     pub deemphasis: Option<f64>,
     /// Samples of one call of the core, after each of which the lamp is looked at.
     pub block: usize,
+    /// Samples of a period of the log, a multiple of `block`. Where there is none, the core is not
+    /// asked for figures, which takes less time.
+    pub period: Option<u32>,
 }
 
 /// What is seen after each block.
@@ -46,11 +50,14 @@ pub struct Sight {
     pub bad_pilot: usize,
     /// The last of these, counted from the block's first sample.
     pub last_bad_pilot: Option<usize>,
+    /// Of the period of the log that this block ended.
+    pub figures: Option<Figures>,
 }
 
 pub struct Receiver<T: Format> {
     settings: Settings,
     pll: StereoPllState<T>,
+    counter: Option<Counter<T>>,
     band: Fir,
     /// The multiplex that waits for its pilot.
     waiting: Vec<f32>,
@@ -79,6 +86,7 @@ impl<T: Format> Receiver<T> {
             rate,
             natural,
             level,
+            period,
             ..
         } = settings;
         if !(LEAST_RATE..=HIGHEST_RATE).contains(&rate) {
@@ -90,9 +98,11 @@ impl<T: Format> Receiver<T> {
         let pll = Rate::from_f64(rate)
             .and_then(|rate| StereoPllState::new(PILOT_HZ, natural, level, rate))
             .map_err(|why| why.to_string())?;
+        let counter = period.map(Counter::new).transpose();
         Ok(Receiver {
             settings,
             pll,
+            counter: counter.map_err(|why| why.to_string())?,
             band: Fir::new(&band_pass(PILOT_HZ, PILOT_REACH_HZ, rate), 1),
             waiting: Vec::new(),
             audio: AudioPath::new(rate, settings.deemphasis),
@@ -109,6 +119,11 @@ impl<T: Format> Receiver<T> {
     pub fn thresholds(&self) -> (f64, f64) {
         let coefficients = self.pll.coefficients();
         (coefficients.on, coefficients.off)
+    }
+
+    /// The figures of the log's last period, which has not ended.
+    pub fn unfinished(&self) -> Option<Figures> {
+        self.counter.as_ref().map(Counter::unfinished)
     }
 
     /// Takes a piece of the multiplex; tells `see` of each block and appends to `audio`.
@@ -165,10 +180,13 @@ impl<T: Format> Receiver<T> {
         while from < n {
             let block = self.settings.block;
             let to = (from + block - (self.done % block as u64) as usize).min(n);
+            let (m, p) = (&mpx[from..to], &pilot_t[from..to]);
             let (l, r) = (&mut left[from..to], &mut right[from..to]);
-            self.pll
-                .process_merged(&mpx[from..to], &pilot_t[from..to], l, r)
-                .map_err(core_fault)?;
+            let figures = match &mut self.counter {
+                Some(counter) => counter.decode(&mut self.pll, m, p, l, r),
+                None => self.pll.process_merged(m, p, l, r).map(|()| None),
+            }
+            .map_err(core_fault)?;
             let last_bad_pilot = last_not_finite(&pilot[from..to]);
             see(Sight {
                 samples: to - from,
@@ -178,6 +196,7 @@ impl<T: Format> Receiver<T> {
                 bad: not_finite(&self.waiting[from..to]),
                 bad_pilot: last_bad_pilot.map_or(0, |last| not_finite(&pilot[from..=from + last])),
                 last_bad_pilot,
+                figures,
             })?;
             self.done += (to - from) as u64;
             from = to;
@@ -219,6 +238,7 @@ mod tests {
         level: 0.1,
         deemphasis: None,
         block: 192,
+        period: None,
     };
 
     #[test]
@@ -281,6 +301,49 @@ mod tests {
                     .all(|x| (x - 0.25).abs() < 1e-5)
             );
         }
+    }
+
+    /// The figures of all periods, with the unfinished one, and the audio.
+    fn logged<T: Format>(mpx: &[f32], piece: usize) -> (Vec<Figures>, Stereo) {
+        let period = Some(1_920);
+        let mut receiver = Receiver::<T>::new(Settings { period, ..SETTINGS }).unwrap();
+        let (mut rows, mut audio) = (Vec::new(), Stereo::default());
+        let mut see = |sight: Sight| {
+            rows.extend(sight.figures);
+            Ok(())
+        };
+        for piece in mpx.chunks(piece) {
+            receiver.run(piece, &mut see, &mut audio).unwrap();
+        }
+        receiver.finish(&mut see, &mut audio).unwrap();
+        rows.extend(receiver.unfinished());
+        (rows, audio)
+    }
+
+    /// However the capture comes in pieces, and as many rows as periods.
+    fn figures_by_pieces<T: Format>() {
+        let pilot = |i: u32| f64::from(i * 95 % 960) / 960.0 * std::f64::consts::TAU;
+        let mpx: Vec<f32> = (0..20_001).map(|i| 0.1 * pilot(i).sin() as f32).collect();
+        let (whole, audio) = logged::<T>(&mpx, mpx.len());
+        let samples: Vec<u32> = whole.iter().map(|row| row.stereo + row.mono).collect();
+        assert_eq!(samples[..10], [1_920; 10]);
+        assert_eq!(samples[10..], [801]);
+        assert_eq!(whole.iter().map(|row| row.changes).sum::<u32>(), 1);
+        assert!(whole[10].stereo == 801 && whole[10].difference > 0.05);
+        for piece in [1, 100, 1_919, 1_921] {
+            assert!(logged::<T>(&mpx, piece) == (whole.clone(), audio.clone()));
+        }
+        let mut receiver = Receiver::<T>::new(SETTINGS).unwrap();
+        let (mut see, mut without) = (|_| Ok(()), Stereo::default());
+        receiver.run(&mpx, &mut see, &mut without).unwrap();
+        receiver.finish(&mut see, &mut without).unwrap();
+        assert!(without == audio && receiver.unfinished().is_none());
+    }
+
+    #[test]
+    fn figures_are_those_of_the_whole_capture() {
+        figures_by_pieces::<f32>();
+        figures_by_pieces::<Q15>();
     }
 
     /// What the history has of a capture that is handed over in pieces, and by how many samples the

@@ -173,6 +173,7 @@ mod tests {
                 bad,
                 bad_pilot,
                 last_bad_pilot,
+                figures: None,
             });
         }
         history.finish();

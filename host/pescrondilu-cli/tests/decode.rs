@@ -5,6 +5,16 @@ mod common;
 use common::*;
 use std::fs;
 
+/// A column of a log, by its name.
+fn column(log: &str, name: &str) -> Vec<f64> {
+    let text = fs::read_to_string(log).unwrap();
+    let mut lines = text.lines();
+    let head: Vec<&str> = lines.next().unwrap().split(',').collect();
+    let at = head.iter().position(|word| *word == name).unwrap();
+    let field = |line: &str| line.split(',').nth(at).unwrap().parse().unwrap();
+    lines.map(field).collect()
+}
+
 /// Decodes a capture to audio with further options.
 fn decode(folder: &Folder, mpx: &[f32], options: &[&str]) -> (Said, Audio) {
     let (capture, audio) = (folder.file("mpx.wav"), folder.file("audio.wav"));
@@ -146,16 +156,8 @@ fn the_pilot_s_frequency_is_found() {
     let text = said.text();
     assert!(text.contains("19003.0 Hz, amplitude 0.1199"), "{text}");
     assert!(text.contains("outside BS.450"), "{text}");
-    let text = fs::read_to_string(log).unwrap();
-    let offset: f64 = text
-        .lines()
-        .last()
-        .unwrap()
-        .rsplit(',')
-        .next()
-        .unwrap()
-        .parse()
-        .unwrap();
+    let offsets = column(&log, "offset_hz");
+    let offset = offsets.last().unwrap();
     assert!((offset - 3.0).abs() < 0.1, "{offset}");
 }
 
@@ -437,4 +439,110 @@ fn a_long_history_is_thinned_out_in_the_plot_and_whole_in_the_log() {
     assert_eq!(fs::read_to_string(log).unwrap().lines().count(), 1 + 9_600);
     let plot = fs::read_to_string(plot).unwrap();
     assert!(plot.len() < 200_000, "{}", plot.len());
+}
+
+/// Every sample of the capture is in one period of the log, and the last one is as long as it went.
+#[test]
+fn the_log_has_the_figures_of_each_period() {
+    let folder = Folder::new("figures");
+    let log = folder.file("log.csv");
+    let mpx = Multiplex {
+        seconds: 0.75,
+        ..Multiplex::default()
+    }
+    .make();
+    assert_eq!(mpx.len(), 144_000);
+    for format in ["f32", "q15"] {
+        let (said, _) = decode(&folder, &mpx, &["--log", &log, "--format", format]);
+        let [stereo, mono, changes, difference] = [
+            "stereo_samples",
+            "mono_samples",
+            "changes",
+            "difference_largest",
+        ]
+        .map(|name| column(&log, name));
+        let samples: Vec<f64> = stereo.iter().zip(&mono).map(|(s, m)| s + m).collect();
+        assert_eq!(samples[..7], [19_200.0; 7]);
+        assert_eq!(samples[7..], [9_600.0]);
+        assert_eq!(changes.iter().sum::<f64>(), 1.0);
+        // mono until it locks, then stereo throughout
+        assert_eq!(stereo[1..7], [19_200.0; 6]);
+        assert_eq!(stereo[7], 9_600.0);
+        // the report looks every millisecond, the core at every sample
+        let text = said.text();
+        let (_, rest) = text.split_once("stereo for ").unwrap();
+        let told: f64 = rest.split(' ').next().unwrap().parse().unwrap();
+        let exact = stereo.iter().sum::<f64>() / 192_000.0;
+        assert!((0.0..0.0012).contains(&(told - exact)), "{told} {exact}");
+        // The tone of 0.45 is on the left, and the difference before its low-pass is the multiplex
+        // times a sine; both formats are at the capture's scale.
+        let near = |x: &f64| (0.4..0.55).contains(x);
+        assert!(difference[1..].iter().all(near), "{format}: {difference:?}");
+        let peak = mpx.iter().fold(0.0, |m: f32, x| m.max(x.abs()));
+        assert!(difference.iter().all(|x| *x <= f64::from(peak) + 1e-4));
+    }
+}
+
+/// With a log the core is asked for sum, difference and figures, else for left and right.
+#[test]
+fn the_audio_is_the_same_with_a_log() {
+    let folder = Folder::new("same");
+    let log = folder.file("log.csv");
+    let mut mpx = Multiplex {
+        right: 0.3,
+        seconds: 0.4,
+        ..Multiplex::default()
+    }
+    .make();
+    mpx[40_000..40_020].fill(f32::from_bits(0xFFC0_0000));
+    mpx[50_000] = f32::INFINITY;
+    for format in ["f32", "q15"] {
+        for deemphasis in ["50", "none"] {
+            let options = ["--format", format, "--deemphasis", deemphasis];
+            let audio = |more: &[&str]| {
+                let (said, _) = decode(&folder, &mpx, &[&options[..], more].concat());
+                (fs::read(folder.file("audio.wav")).unwrap(), said.text())
+            };
+            let without = audio(&[]);
+            for period in ["0.02", "0.7", "100", "3600000"] {
+                let with = audio(&["--log", &log, "--period", period]);
+                assert!(with.0 == without.0, "{format} {deemphasis} {period}");
+                assert_eq!(with.1, audio(&["--period", period]).1);
+            }
+        }
+    }
+}
+
+/// A pilot that turns over 4000 times a second, in a receiver whose thresholds are near 0: the lamp
+/// changes several times in a millisecond. The report cannot see that, and the log counts it.
+#[test]
+fn the_log_counts_changes_within_a_millisecond() {
+    let folder = Folder::new("flicker");
+    let log = folder.file("log.csv");
+    let [carrier, slow] = [19_000.0, 2_000.0].map(|hz| tone(hz, RATE, 0.5, 1.0));
+    let mpx: Vec<f32> = carrier.iter().zip(slow).map(|(c, s)| 0.9 * c * s).collect();
+    for format in ["f32", "q15"] {
+        let options = ["--level", "0.0005", "--natural", "0.05", "--format", format];
+        let (said, _) = decode(&folder, &mpx, &[&options[..], &["--log", &log]].concat());
+        let changes: f64 = column(&log, "changes").iter().sum();
+        assert!((1_800.0..2_000.0).contains(&changes), "{format}: {changes}");
+        let text = said.text();
+        let (_, rest) = text.split_once(" s, ").unwrap();
+        let seen: f64 = rest.split(' ').next().unwrap().parse().unwrap();
+        println!("{format}: {changes} changes, of which the report saw {seen}");
+        assert!(seen < 20.0, "{text}");
+    }
+}
+
+#[test]
+fn a_period_that_the_core_cannot_count_is_refused() {
+    let folder = Folder::new("longest");
+    let (capture, log) = (folder.file("mpx.wav"), folder.file("log.csv"));
+    write_wav(&capture, RATE, &[&[0.0; 100]]);
+    let words = [
+        "decode", &capture, "--rate", "4000000", "--period", "1080000",
+    ];
+    run(&words).done();
+    run(&[&words[..], &["--log", &log]].concat()).refused(2, "a period of the log lasts 1073 s");
+    assert_eq!(folder.names(), ["mpx.wav"]);
 }

@@ -15,6 +15,9 @@ struct Line {
     changes: u64,
     bad: u64,
     bad_pilot: u64,
+    stereo_samples: u64,
+    mono_samples: u64,
+    difference: f64,
 }
 
 fn read_log(path: &str) -> Vec<Line> {
@@ -22,6 +25,7 @@ fn read_log(path: &str) -> Vec<Line> {
     let mut lines = text.lines();
     let head = lines.next().unwrap();
     assert!(head.starts_with("start_s,end_s,level_least,level_highest,lamp,changes,non_finite"));
+    assert!(head.ends_with(",stereo_samples,mono_samples,difference_largest"));
     let line = |line: &str| {
         let fields: Vec<&str> = line.split(',').collect();
         assert_eq!(fields.len(), head.split(',').count());
@@ -35,6 +39,9 @@ fn read_log(path: &str) -> Vec<Line> {
             changes: number(5) as u64,
             bad: number(6) as u64,
             bad_pilot: number(7) as u64,
+            stereo_samples: number(9) as u64,
+            mono_samples: number(10) as u64,
+            difference: number(11),
         }
     };
     lines.map(line).collect()
@@ -103,6 +110,7 @@ fn history_is_right(log: &[Line]) {
     }
     assert_eq!(log.iter().map(|line| line.changes).sum::<u64>(), 7);
     lamp_follows_the_level(log);
+    figures_follow_the_lamp(log);
     let bad: Vec<&Line> = log.iter().filter(|line| line.bad > 0).collect();
     assert_eq!((bad.len(), bad[0].bad, bad[0].start), (1, 3_840, 6.0));
     // the filtered pilot is not finite a little longer, to both sides
@@ -115,6 +123,22 @@ fn lamp_follows_the_level(log: &[Line]) {
     for line in log.iter().filter(|line| line.changes == 0) {
         assert!(!line.stereo || line.least >= 0.015, "{}", line.start);
         assert!(line.stereo || line.highest < 0.02, "{}", line.start);
+    }
+}
+
+/// Where the lamp did not change, all samples are of its kind, and in mono there is no difference.
+fn figures_follow_the_lamp(log: &[Line]) {
+    for line in log {
+        assert_eq!(line.stereo_samples + line.mono_samples, 3_840);
+        let (mono, at) = (line.stereo_samples == 0, line.start);
+        assert_eq!(line.difference == 0.0, mono, "{at}");
+        match (line.changes, line.stereo) {
+            (0, true) => assert_eq!(line.mono_samples, 0, "{at}"),
+            (0, false) => assert!(mono, "{at}"),
+            _ => assert!(line.stereo_samples > 0 && line.mono_samples > 0, "{at}"),
+        }
+        // NaN is passed over, and the retune has infinities too
+        assert_eq!(line.difference.is_infinite(), line.bad > 0, "{at}");
     }
 }
 

@@ -16,6 +16,7 @@ pub mod decoder;
 pub mod encoder;
 pub mod numbers;
 pub mod rds;
+pub mod summary;
 
 /// A block's answer: 0, or 100 and the cause's number; then the two lengths.
 #[repr(C)]

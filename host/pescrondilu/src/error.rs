@@ -62,7 +62,10 @@ impl Refusal {
             8 => "the integral gain or the lock coefficient becomes 0 in Q15",
             9 => "the table does not have 4097 entries",
             10 => "an input's length differs from the first input's",
-            11 => "an output's length differs from the first input's, or a group's from 104",
+            11 => {
+                "an output's length differs from the first input's, a group's from 104, \
+                 or a summary column's from the periods that end"
+            }
             12 => "the pilot frequency is not from 18000 to 20000 Hz",
             13 => "the main gain is not from 0 to 1",
             14 => "the pilot amplitude is not from 0 to 0.2",
@@ -71,6 +74,7 @@ impl Refusal {
             17 => "the frequency divided by the rate is not finite",
             18 => "the value does not fit Q14",
             19 => "word three of the group differs from word one, and bit 11 of word two is set",
+            20 => "the summary's period is 0, or a field of its record is out of its range",
             _ => UNKNOWN,
         }
     }
@@ -149,7 +153,7 @@ impl From<Refusal> for Error {
             Refusal { expected, got, .. } if refusal.has_lengths() => {
                 Error::LengthMismatch { expected, got }
             }
-            Refusal { number: 0..=19, .. } => Error::InvalidParameter(refusal.message()),
+            Refusal { number: 0..=20, .. } => Error::InvalidParameter(refusal.message()),
             _ => Error::Internal(refusal.message()),
         }
     }

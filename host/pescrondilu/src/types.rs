@@ -6,7 +6,7 @@
 use core::fmt::Debug;
 use core::slice::{from_raw_parts, from_raw_parts_mut};
 
-use pescrondilu_sys::decoder::Sample as CoreSample;
+use pescrondilu_sys::summary::Summed as CoreSample;
 
 use crate::{num, tables};
 

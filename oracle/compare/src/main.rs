@@ -10,6 +10,7 @@
 //!                           scan of the pilot
 //!     compare rds [N]       every block of 26 bits, and N sessions of each kind of the group
 //!                           former (200000)
+//!     compare summary [N]   the summary beside the pairs: N sessions of each kind (100000)
 //!     compare every         every input of each function whose arguments have 32 bits in all
 //!     compare every-stereo  every f32 of the corrections and of the scan, every pair of the Q15
 //!                           matrix
@@ -23,6 +24,7 @@ mod record;
 mod scan;
 mod sessions;
 mod stereo;
+mod summary;
 
 use numbers_oracle::edges::edges;
 use numbers_oracle::random::Random;
@@ -135,7 +137,8 @@ fn helpers(compare: impl Fn(&'static Function) -> bool) -> bool {
 
 fn usage() -> ! {
     eprintln!(
-        "usage: compare [numbers [N] | stereo [N] | decoder [N] | rds [N] | every | every-stereo]"
+        "usage: compare [numbers [N] | stereo [N] | decoder [N] | rds [N] | summary [N] | every | \
+         every-stereo]"
     );
     std::process::exit(2);
 }
@@ -155,12 +158,14 @@ fn main() {
         decoder::compare(count) & scan::compare(200 * count)
     };
     let rds = || rds::compare(count.unwrap_or(200_000));
+    let summary = || summary::compare(count.unwrap_or(100_000));
     let equal = match what.as_deref() {
-        None => helpers(some) & stereo() & decoder() & rds(),
+        None => helpers(some) & stereo() & decoder() & rds() & summary(),
         Some("numbers") => helpers(some),
         Some("stereo") => stereo(),
         Some("decoder") => decoder(),
         Some("rds") => rds(),
+        Some("summary") => summary(),
         Some("every") => helpers(compare_every),
         Some("every-stereo") => {
             stereo::every_correction() & stereo::every_matrix_q15() & scan::every()

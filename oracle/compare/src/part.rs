@@ -24,9 +24,18 @@ pub struct Part {
     pub version_b: u64,
     // pilots of which the scan says that a sample is not finite
     pub not_finite: u64,
+    // summaries that calls finished, changes between a call's samples, and calls that finished more
+    // than one
+    pub summaries: u64,
+    pub changes: u64,
+    pub several: u64,
+    // summary calls that the length of one of the four further outputs refused
+    pub by_column: u64,
     // how many of our answers are a refusal, by its number
     refused: BTreeMap<u64, u64>,
     differences: u64,
+    // the smallest call that differed, by its size
+    smallest: Option<(usize, String)>,
 }
 
 impl Part {
@@ -41,8 +50,13 @@ impl Part {
             stopped: 0,
             version_b: 0,
             not_finite: 0,
+            summaries: 0,
+            changes: 0,
+            several: 0,
+            by_column: 0,
             refused: BTreeMap::new(),
             differences: 0,
+            smallest: None,
         }
     }
 
@@ -69,6 +83,18 @@ impl Part {
         self.differences += 1;
         if self.differences <= SHOWN {
             println!("{}: {text}", self.name);
+        }
+    }
+
+    /// A difference of which the smallest is printed at the end.
+    pub fn differ_in(&mut self, size: usize, text: String) {
+        self.differences += 1;
+        if self
+            .smallest
+            .as_ref()
+            .is_none_or(|(least, _)| size < *least)
+        {
+            self.smallest = Some((size, text));
         }
     }
 
@@ -108,6 +134,9 @@ impl Part {
         }
         for (number, count) in &self.refused {
             print!(", {count} refused by {number}");
+            if *number == 11 && self.by_column > 0 {
+                print!(" ({} by a column)", self.by_column);
+            }
         }
         if self.stereo > 0 {
             print!(", {} in stereo", self.stereo);
@@ -124,7 +153,16 @@ impl Part {
         if self.version_b > 0 {
             print!(", {} accepted of version B", self.version_b);
         }
+        if self.summaries > 0 {
+            print!(", {} summaries, {} changes", self.summaries, self.changes);
+        }
+        if self.several > 0 {
+            print!(", {} calls with more than one summary", self.several);
+        }
         println!(", {} differences", self.differences);
+        if let Some((_, text)) = &self.smallest {
+            println!("{}: the smallest call: {text}", self.name);
+        }
         self.differences == 0
     }
 }

@@ -3,15 +3,24 @@
 use decoder_oracle::answers::{Arguments, Block, Call, Format, Outcome, Outputs, output_words};
 use numbers_oracle::answers::word_f64;
 use pescrondilu_sys::decoder::{self, Decoder, Sample, Way};
+use pescrondilu_sys::summary::{Summary, Summed, summary_block};
 use sdrk_core::probe::Fields;
 use sdrk_core::types::Q15;
 use stereo_oracle::answers::{ACCEPTED, Said};
 
 /// A format that our library has.
-pub trait Ours: Format<Sample: Sample<Value = Self::Value>> {}
+pub trait Ours: Format<Sample: Summed<Value = Self::Value>> {}
 
 impl Ours for f32 {}
 impl Ours for Q15 {}
+
+/// The four further outputs of a summary call, one a figure.
+pub struct Columns<'a, S> {
+    pub stereo: &'a mut [u32],
+    pub mono: &'a mut [u32],
+    pub changes: &'a mut [u32],
+    pub magnitude: &'a mut [S],
+}
 
 #[derive(Clone, Copy)]
 pub struct Record<F: Ours>(Decoder<F::Value>);
@@ -120,6 +129,29 @@ impl<F: Ours> Record<F> {
         let [left, right] = &mut outputs;
         let answer = decoder::matrix(sum, difference, left, right);
         (answer.numbers(), outputs)
+    }
+
+    /// A block with its summaries, into the outputs given beside it and not into its own.
+    pub fn summary(
+        &mut self,
+        summary: &mut Summary<F::Sample>,
+        b: &Block<F::Sample>,
+        [sum, difference]: [&mut [F::Sample]; 2],
+        columns: Columns<'_, F::Sample>,
+    ) -> Said {
+        let (table, mpx, pilot) = (&b.table, &b.mpx, &b.pilot);
+        let Columns {
+            stereo,
+            mono,
+            changes,
+            magnitude,
+        } = columns;
+        let reply = summary_block(
+            self.0, *summary, table, mpx, pilot, sum, difference, stereo, mono, changes, magnitude,
+        );
+        self.0 = reply.decoder;
+        *summary = reply.summary;
+        reply.answer.numbers()
     }
 
     pub fn call(&mut self, way: Way, call: &Call<F::Sample>) -> Outcome {

@@ -4,6 +4,7 @@ use super::order::{Core, Order};
 use crate::audio::Stereo;
 use crate::draft::write_text;
 use crate::fault::{Fault, Outcome};
+use crate::figures::Figures;
 use crate::format::Format;
 use crate::history::History;
 use crate::log::Log;
@@ -37,21 +38,27 @@ struct Watch {
 }
 
 impl Watch {
+    /// A period of the history and one of the core's summary end with the same block.
     fn see(&mut self, sight: Sight) -> Outcome<()> {
         let ended = self.history.see(sight);
-        match (&mut self.log, ended) {
-            (Some(log), Some(period)) => log.write(&period),
-            _ => Ok(()),
+        let Some(log) = &mut self.log else {
+            return Ok(());
+        };
+        debug_assert_eq!(ended.is_some(), sight.figures.is_some());
+        match ended.zip(sight.figures) {
+            Some((period, figures)) => log.write(&period, &figures),
+            None => Ok(()),
         }
     }
 
-    fn finish(&mut self) -> Outcome<()> {
+    /// `unfinished` has the figures of the last period, which may be short.
+    fn finish(&mut self, unfinished: Option<Figures>) -> Outcome<()> {
         let last = self.history.finish();
         let Some(mut log) = self.log.take() else {
             return Ok(());
         };
-        if let Some(period) = last {
-            log.write(&period)?;
+        if let Some((period, figures)) = last.zip(unfinished) {
+            log.write(&period, &figures)?;
         }
         log.finish()
     }
@@ -79,6 +86,7 @@ impl<T: Format> Session<'_, T> {
             level,
             deemphasis,
             block,
+            period: log_period(order, period, rate)?,
         })
         .map_err(|why| Fault::failed(&name, why))?;
         let audio_rate = rate / receiver.decimation() as f64;
@@ -135,7 +143,7 @@ impl<T: Format> Session<'_, T> {
     }
 
     fn finish(mut self) -> Outcome<()> {
-        self.watch.finish()?;
+        self.watch.finish(self.receiver.unfinished())?;
         if let Some(output) = self.output.take() {
             output.finish()?;
         }
@@ -266,6 +274,17 @@ fn lengths(rate: f64, period: f64) -> (u64, usize) {
     (whole as u64, block as usize)
 }
 
+/// Samples of a period of the log, where there is one. The core counts them in 32 bits.
+fn log_period(order: &Order, period: u64, rate: f64) -> Outcome<Option<u32>> {
+    if order.log.is_none() {
+        return Ok(None);
+    }
+    let most = (f64::from(u32::MAX) / rate).floor();
+    let why = || format!("--period: at {rate} Hz a period of the log lasts {most} s at most");
+    let period = u32::try_from(period).map_err(|_| Fault::usage(why()))?;
+    Ok(Some(period))
+}
+
 fn amplify(samples: &mut [f32], gain: f64) {
     if gain != 1.0 {
         samples
@@ -298,5 +317,20 @@ mod tests {
             assert_eq!(period % block as u64, 0);
             assert!((period as f64 / rate - 0.0237).abs() < 0.001);
         }
+    }
+
+    #[test]
+    fn a_period_of_the_log_has_32_bits() {
+        let with = |log: Option<&str>| Order {
+            log: log.map(String::from),
+            ..Order::new("x.wav")
+        };
+        let (most, rate) = (u64::from(u32::MAX), 4e6);
+        let log = with(Some("log.csv"));
+        assert_eq!(log_period(&log, most, rate).unwrap(), Some(u32::MAX));
+        let fault = log_period(&log, most + 1, rate).unwrap_err();
+        assert!(matches!(&fault, Fault::Usage(_)));
+        assert!(fault.text().contains("1073 s at most"), "{}", fault.text());
+        assert_eq!(log_period(&with(None), most + 1, rate).unwrap(), None);
     }
 }

@@ -15,7 +15,7 @@
 
 static uint64_t state = 2026;
 static unsigned kind;  /* 0: NaNs, 1: any bits, 2: the lists below, 3: numbers that compute */
-static unsigned fault; /* 4 to 7: which length is wrong */
+static unsigned fault; /* 4 to 7: which length is wrong; 1: the summary is of any bits */
 
 static const uint64_t odd64[] = {
     UINT64_C(0x0000000000000000), UINT64_C(0x8000000000000000), UINT64_C(0x7fffffffffffffff),
@@ -145,6 +145,40 @@ static pescrondilu_q15 any_q15(void)
     return d;
 }
 
+/*
+ * A summary that is fit, unless the fault is 1, so that the causes behind it come up too. Its
+ * period is up to somewhat above the length of a block.
+ */
+static pescrondilu_f32_summary any_f32_summary(void)
+{
+    pescrondilu_f32_summary s;
+    int fit = fault != 1;
+    s.period = fit ? 1 + (uint32_t)(next() % (N + 3)) : any32();
+    uint32_t held = fit ? (uint32_t)(next() % s.period) : 0;
+    s.stereo = fit ? (uint32_t)(next() % (held + 1)) : any32();
+    s.mono = fit ? held - s.stereo : any32();
+    s.changes = fit ? (uint32_t)(next() % (held + 1)) : any32();
+    uint32_t magnitude = (uint32_t)next() % 0x7f800001;
+    s.magnitude = fit ? f32_of(held > 0 ? magnitude : 0) : any_float();
+    s.before = any_switch();
+    return s;
+}
+
+static pescrondilu_q15_summary any_q15_summary(void)
+{
+    pescrondilu_q15_summary s;
+    int fit = fault != 1;
+    s.period = fit ? 1 + (uint32_t)(next() % (N + 3)) : any32();
+    uint32_t held = fit ? (uint32_t)(next() % s.period) : 0;
+    s.stereo = fit ? (uint32_t)(next() % (held + 1)) : any32();
+    s.mono = fit ? held - s.stereo : any32();
+    s.changes = fit ? (uint32_t)(next() % (held + 1)) : any32();
+    uint16_t magnitude = (uint16_t)((uint32_t)next() % 0x8000);
+    s.magnitude = fit ? (int16_t)(held > 0 ? magnitude : 0) : any16();
+    s.before = any_switch();
+    return s;
+}
+
 static pescrondilu_nco any_nco(void)
 {
     pescrondilu_nco o;
@@ -263,6 +297,26 @@ static void put_q15(pescrondilu_q15 d)
     put32(d.enabled);
 }
 
+static void put_f32_summary(pescrondilu_f32_summary s)
+{
+    put32(s.period);
+    put32(s.stereo);
+    put32(s.mono);
+    put32(s.changes);
+    put_float(s.magnitude);
+    put32(s.before);
+}
+
+static void put_q15_summary(pescrondilu_q15_summary s)
+{
+    put32(s.period);
+    put32(s.stereo);
+    put32(s.mono);
+    put32(s.changes);
+    put16(s.magnitude);
+    put32(s.before);
+}
+
 static void put_readout(pescrondilu_readout r)
 {
     put_double(r.integrator);
@@ -314,6 +368,9 @@ static void put_encode_rds_made(pescrondilu_encode_rds_made m)
 
 static float table[PESCRONDILU_TABLE_LENGTH], in1[N], in2[N], in3[N], out1[N], out2[N];
 static int16_t table_q[PESCRONDILU_TABLE_LENGTH], in1_q[N], in2_q[N], out1_q[N], out2_q[N];
+static uint32_t stereo[N + 1], mono[N + 1], changes[N + 1];
+static float magnitude[N + 1];
+static int16_t magnitude_q[N + 1];
 static uint8_t bits[PESCRONDILU_RDS_GROUP_BITS + 1];
 
 /* New samples, and in the outputs what a call may leave there. */
@@ -342,6 +399,29 @@ static void put_outputs(void)
     }
 }
 
+/* What a block may leave in a summary's columns. */
+static void fill_columns(void)
+{
+    for (int i = 0; i <= N; i++) {
+        stereo[i] = 0xaaaaaaa0u + (uint32_t)i;
+        mono[i] = 0xbbbbbbb0u + (uint32_t)i;
+        changes[i] = 0xccccccc0u + (uint32_t)i;
+        magnitude[i] = f32_of(0xffd00000u + (uint32_t)i);
+        magnitude_q[i] = (int16_t)(0x3330 + i);
+    }
+}
+
+static void put_columns(void)
+{
+    for (int i = 0; i <= N; i++) {
+        put32(stereo[i]);
+        put32(mono[i]);
+        put32(changes[i]);
+        put_float(magnitude[i]);
+        put16(magnitude_q[i]);
+    }
+}
+
 /* What a group may leave there; none of it is a bit. */
 static void fill_bits(void)
 {
@@ -362,6 +442,26 @@ static size_t length(size_t n, unsigned which)
 }
 
 #define TABLE_N length(PESCRONDILU_TABLE_LENGTH, 4)
+
+/* Which of a summary's columns has a place less or more; from 4 on none has. */
+static unsigned wrong_column(void)
+{
+    return (unsigned)(next() % 8);
+}
+
+/*
+ * The places of a column: one for each period that ends in a block of N samples, or one less where
+ * there is one, else one more. Where the summary is of any bits, N.
+ */
+static size_t places(uint32_t period, uint32_t held, unsigned wrong, unsigned which)
+{
+    if (fault == 1)
+        return N;
+    size_t n = (held + N) / period;
+    if (wrong != which)
+        return n;
+    return n > 0 ? n - 1 : n + 1;
+}
 
 #define EACH(name, ...)                                                                            \
     for (unsigned k = 0; k < CASES; k++) {                                                         \
@@ -455,6 +555,48 @@ static void decoders(void)
         put_answer(r.answer);
         put_q15(r.decoder);
         put_outputs();
+    })
+    EACH(pescrondilu_f32_summary_new, {
+        put_f32_summary(pescrondilu_f32_summary_new(any32()));
+    })
+    EACH(pescrondilu_q15_summary_new, {
+        put_q15_summary(pescrondilu_q15_summary_new(any32()));
+    })
+    EACH(pescrondilu_f32_summary_block, {
+        fill();
+        fill_columns();
+        pescrondilu_f32 d = any_f32();
+        pescrondilu_f32_summary s = any_f32_summary();
+        unsigned wrong = wrong_column();
+        uint32_t held = s.stereo + s.mono;
+        pescrondilu_f32_summary_reply r = pescrondilu_f32_summary_block(
+            d, s, table, TABLE_N, in1, N, in2, length(N, 5), out1, length(N, 6), out2, length(N, 7),
+            stereo, places(s.period, held, wrong, 0), mono, places(s.period, held, wrong, 1),
+            changes, places(s.period, held, wrong, 2), magnitude,
+            places(s.period, held, wrong, 3));
+        put_answer(r.answer);
+        put_f32(r.decoder);
+        put_f32_summary(r.summary);
+        put_outputs();
+        put_columns();
+    })
+    EACH(pescrondilu_q15_summary_block, {
+        fill();
+        fill_columns();
+        pescrondilu_q15 d = any_q15();
+        pescrondilu_q15_summary s = any_q15_summary();
+        unsigned wrong = wrong_column();
+        uint32_t held = s.stereo + s.mono;
+        pescrondilu_q15_summary_reply r = pescrondilu_q15_summary_block(
+            d, s, table_q, TABLE_N, in1_q, N, in2_q, length(N, 5), out1_q, length(N, 6), out2_q,
+            length(N, 7), stereo, places(s.period, held, wrong, 0), mono,
+            places(s.period, held, wrong, 1), changes, places(s.period, held, wrong, 2),
+            magnitude_q, places(s.period, held, wrong, 3));
+        put_answer(r.answer);
+        put_q15(r.decoder);
+        put_q15_summary(r.summary);
+        put_outputs();
+        put_columns();
     })
     EACH(pescrondilu_f32_scan, {
         fill();

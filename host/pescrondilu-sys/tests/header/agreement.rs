@@ -8,6 +8,7 @@ use pescrondilu_sys::decoder::*;
 use pescrondilu_sys::encoder::*;
 use pescrondilu_sys::numbers::*;
 use pescrondilu_sys::rds::*;
+use pescrondilu_sys::summary::*;
 use std::collections::{BTreeMap, BTreeSet};
 use std::fmt::Write;
 use std::process::Command;
@@ -60,6 +61,11 @@ struct Calls {
     in2_q: [i16; N],
     out1_q: [i16; N],
     out2_q: [i16; N],
+    stereo: [u32; N + 1],
+    mono: [u32; N + 1],
+    changes: [u32; N + 1],
+    magnitude: [f32; N + 1],
+    magnitude_q: [i16; N + 1],
     bits: [u8; BITS + 1],
     lines: String,
 }
@@ -81,6 +87,11 @@ impl Calls {
             in2_q: [0; N],
             out1_q: [0; N],
             out2_q: [0; N],
+            stereo: [0; N + 1],
+            mono: [0; N + 1],
+            changes: [0; N + 1],
+            magnitude: [0.0; N + 1],
+            magnitude_q: [0; N + 1],
             bits: [0; BITS + 1],
             lines: String::new(),
         };
@@ -227,6 +238,61 @@ impl Calls {
         }
     }
 
+    /// A number below n.
+    fn below(&mut self, n: u32) -> u32 {
+        (self.next() % u64::from(n)) as u32
+    }
+
+    /// A summary: fit unless the fault is 1. `some` gives a magnitude that is fit, 0 where no
+    /// sample is held, and `any` one of any bits.
+    fn any_summary<S>(
+        &mut self,
+        some: fn(&mut Calls, bool) -> S,
+        any: fn(&mut Calls) -> S,
+    ) -> Summary<S> {
+        if self.fault == 1 {
+            let (period, stereo, mono) = (self.any32(), self.any32(), self.any32());
+            let changes = self.any32();
+            // agreement.c draws the magnitude of a fit one in any case
+            self.next();
+            return Summary {
+                period,
+                stereo,
+                mono,
+                changes,
+                magnitude: any(self),
+                before: self.any_switch(),
+            };
+        }
+        let period = 1 + self.below(N as u32 + 3);
+        let held = self.below(period);
+        let stereo = self.below(held + 1);
+        Summary {
+            period,
+            stereo,
+            mono: held - stereo,
+            changes: self.below(held + 1),
+            magnitude: some(self, held > 0),
+            before: self.any_switch(),
+        }
+    }
+
+    fn any_f32_summary(&mut self) -> Summary<f32> {
+        let some = |t: &mut Calls, holds: bool| {
+            let bits = t.next() as u32 % 0x7f800001;
+            f32::from_bits(if holds { bits } else { 0 })
+        };
+        self.any_summary(some, Calls::any_float)
+    }
+
+    fn any_q15_summary(&mut self) -> Summary<i16> {
+        let some = |t: &mut Calls, holds: bool| {
+            let x = (t.next() as u32 % 0x8000) as i16;
+            if holds { x } else { 0 }
+        };
+        self.any_summary(some, Calls::any16)
+    }
+
     fn any_nco(&mut self) -> Nco {
         Nco {
             phase: self.any32(),
@@ -277,6 +343,16 @@ impl Calls {
         }
     }
 
+    fn fill_columns(&mut self) {
+        for i in 0..=N {
+            self.stereo[i] = 0xaaaaaaa0 + i as u32;
+            self.mono[i] = 0xbbbbbbb0 + i as u32;
+            self.changes[i] = 0xccccccc0 + i as u32;
+            self.magnitude[i] = f32::from_bits(0xffd00000 + i as u32);
+            self.magnitude_q[i] = 0x3330 + i as i16;
+        }
+    }
+
     fn fill_bits(&mut self) {
         for i in 0..=BITS {
             self.bits[i] = 0x80 + i as u8;
@@ -289,6 +365,20 @@ impl Calls {
 
     fn table_n(&self) -> usize {
         self.length(TABLE, 4)
+    }
+
+    /// The places of a summary's four columns.
+    fn places<S>(&mut self, s: &Summary<S>) -> [usize; 4] {
+        let wrong = (self.next() % 8) as usize;
+        if self.fault == 1 {
+            return [N; 4];
+        }
+        let n = ((s.stereo + s.mono) as usize + N) / s.period as usize;
+        let mut places = [n; 4];
+        if let Some(place) = places.get_mut(wrong) {
+            *place = if n > 0 { n - 1 } else { n + 1 };
+        }
+        places
     }
 
     fn bits_n(&self) -> usize {
@@ -356,6 +446,15 @@ impl Calls {
         self.put_rest(d);
     }
 
+    fn put_summary<S: Copy>(&mut self, s: Summary<S>, put: fn(&mut Calls, S)) {
+        self.put32(s.period);
+        self.put32(s.stereo);
+        self.put32(s.mono);
+        self.put32(s.changes);
+        put(self, s.magnitude);
+        self.put32(s.before);
+    }
+
     fn put_readout(&mut self, r: Readout) {
         self.put_double(r.integrator);
         self.put_double(r.integrator_limit);
@@ -402,6 +501,16 @@ impl Calls {
             self.put_float(self.out2[i]);
             self.put16(self.out1_q[i]);
             self.put16(self.out2_q[i]);
+        }
+    }
+
+    fn put_columns(&mut self) {
+        for i in 0..=N {
+            self.put32(self.stereo[i]);
+            self.put32(self.mono[i]);
+            self.put32(self.changes[i]);
+            self.put_float(self.magnitude[i]);
+            self.put16(self.magnitude_q[i]);
         }
     }
 
@@ -468,6 +577,80 @@ impl Calls {
         self.put_answer(r.answer);
         self.put_q15(r.decoder);
         self.put_outputs();
+    }
+
+    fn f32_summary_block(&mut self) {
+        self.fill();
+        self.fill_columns();
+        let d = self.any_f32();
+        let s = self.any_f32_summary();
+        let [stereo_n, mono_n, changes_n, magnitude_n] = self.places(&s);
+        let r = unsafe {
+            pescrondilu_f32_summary_block(
+                d,
+                s,
+                self.table.as_ptr(),
+                self.table_n(),
+                self.in1.as_ptr(),
+                N,
+                self.in2.as_ptr(),
+                self.length(N, 5),
+                self.out1.as_mut_ptr(),
+                self.length(N, 6),
+                self.out2.as_mut_ptr(),
+                self.length(N, 7),
+                self.stereo.as_mut_ptr(),
+                stereo_n,
+                self.mono.as_mut_ptr(),
+                mono_n,
+                self.changes.as_mut_ptr(),
+                changes_n,
+                self.magnitude.as_mut_ptr(),
+                magnitude_n,
+            )
+        };
+        self.put_answer(r.answer);
+        self.put_f32(r.decoder);
+        self.put_summary(r.summary, Calls::put_float);
+        self.put_outputs();
+        self.put_columns();
+    }
+
+    fn q15_summary_block(&mut self) {
+        self.fill();
+        self.fill_columns();
+        let d = self.any_q15();
+        let s = self.any_q15_summary();
+        let [stereo_n, mono_n, changes_n, magnitude_n] = self.places(&s);
+        let r = unsafe {
+            pescrondilu_q15_summary_block(
+                d,
+                s,
+                self.table_q.as_ptr(),
+                self.table_n(),
+                self.in1_q.as_ptr(),
+                N,
+                self.in2_q.as_ptr(),
+                self.length(N, 5),
+                self.out1_q.as_mut_ptr(),
+                self.length(N, 6),
+                self.out2_q.as_mut_ptr(),
+                self.length(N, 7),
+                self.stereo.as_mut_ptr(),
+                stereo_n,
+                self.mono.as_mut_ptr(),
+                mono_n,
+                self.changes.as_mut_ptr(),
+                changes_n,
+                self.magnitude_q.as_mut_ptr(),
+                magnitude_n,
+            )
+        };
+        self.put_answer(r.answer);
+        self.put_q15(r.decoder);
+        self.put_summary(r.summary, Calls::put16);
+        self.put_outputs();
+        self.put_columns();
     }
 
     fn f32_scan(&mut self) {
@@ -636,6 +819,16 @@ impl Calls {
         self.each("pescrondilu_q15_merged_block", |t| {
             t.q15_block(Which::Merged)
         });
+        self.each("pescrondilu_f32_summary_new", |t| {
+            let s = pescrondilu_f32_summary_new(t.any32());
+            t.put_summary(s, Calls::put_float);
+        });
+        self.each("pescrondilu_q15_summary_new", |t| {
+            let s = pescrondilu_q15_summary_new(t.any32());
+            t.put_summary(s, Calls::put16);
+        });
+        self.each("pescrondilu_f32_summary_block", Calls::f32_summary_block);
+        self.each("pescrondilu_q15_summary_block", Calls::q15_summary_block);
         self.each("pescrondilu_f32_scan", Calls::f32_scan);
         self.each("pescrondilu_matrix_f32", Calls::matrix_f32);
         self.each("pescrondilu_matrix_q15", Calls::matrix_q15);
@@ -916,6 +1109,10 @@ fn the_calls_cover_the_library() {
             "pescrondilu_q15_block"
             | "pescrondilu_q15_plain_block"
             | "pescrondilu_q15_merged_block" => &[0, 100, 109, 110, 111],
+            "pescrondilu_f32_summary_block" => &[0, 109, 110, 111, 120],
+            "pescrondilu_q15_summary_block" => &[0, 100, 109, 110, 111, 120],
+            // it answers no code: its first word is the period
+            "pescrondilu_f32_summary_new" | "pescrondilu_q15_summary_new" => continue,
             "pescrondilu_matrix_f32" | "pescrondilu_matrix_q15" => &[0, 110, 111],
             _ if name.ends_with("_block") => &[0, 109, 110, 111],
             "pescrondilu_encode_set_pilot" | "pescrondilu_encode_rds_set_pilot" => &[0, 114],

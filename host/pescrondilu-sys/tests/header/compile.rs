@@ -85,6 +85,7 @@ fn receiver_runs() {
         "f32 after  10 ms: level 0.0082, lamp off",
         "f32 at the end:   level 0.0450, lamp on",
         "Q15 at the end:   level 0.0450, lamp on",
+        "summary: 25 periods of 20 ms, 1 change, in period 2",
         "pilot one short: code 110, expected 1920, got 1919",
         "record and outputs: as they were",
         "a rate of 0: code 101",

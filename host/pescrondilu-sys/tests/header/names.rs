@@ -6,7 +6,7 @@ use crate::support::{library_folder, read, root, run, tool};
 use std::collections::{BTreeMap, BTreeSet};
 use std::process::Command;
 
-const COUNT: usize = 68;
+const COUNT: usize = 72;
 
 fn names(declared: &Declared) -> BTreeSet<String> {
     declared.functions.keys().cloned().collect()
@@ -136,16 +136,18 @@ fn layouts_in_rust() -> Layouts {
     let mut found = Layouts::new();
     for rest in text.split("layout!(").skip(1) {
         let inner = rest.split_once(");").expect("it ends").0;
-        let words: Vec<&str> = inner.split(',').map(str::trim).collect();
-        let known = STRUCTS.iter().find(|(_, _, rust)| *rust == words[0]);
-        let name = known
-            .unwrap_or_else(|| panic!("{} is not known", words[0]))
-            .0;
-        let fields = words[2..].iter().map(|word| {
+        // a type may have a comma between its parameters
+        let end = inner.find('>').map_or(0, |at| at + 1);
+        let end = end + inner[end..].find(',').expect("a size stands after it");
+        let here = inner[..end].replace(char::is_whitespace, "");
+        let known = STRUCTS.iter().find(|(_, _, rust)| *rust == here);
+        let name = known.unwrap_or_else(|| panic!("{here} is not known")).0;
+        let words: Vec<&str> = inner[end + 1..].split(',').map(str::trim).collect();
+        let fields = words[1..].iter().map(|word| {
             let (field, at) = word.split_once(' ').expect("a field and its offset");
             (field.to_string(), at.parse().expect("a number"))
         });
-        let new = (words[1].parse().expect("a number"), fields.collect());
+        let new = (words[0].parse().expect("a number"), fields.collect());
         assert!(
             found.insert(name.to_string(), new).is_none(),
             "{name} twice"

@@ -36,7 +36,7 @@ impl Declared {
 }
 
 /// A struct in C, in Rattle and in Rust.
-pub const STRUCTS: [(&str, &str, &str); 23] = [
+pub const STRUCTS: [(&str, &str, &str); 27] = [
     ("pescrondilu_answer", "Code", "Code"),
     ("pescrondilu_f32", "DecoderF32", "Decoder<f32>"),
     ("pescrondilu_q15", "DecoderQ15", "Decoder<i64>"),
@@ -45,6 +45,26 @@ pub const STRUCTS: [(&str, &str, &str); 23] = [
     ("pescrondilu_f32_reply", "ReplyF32", "Reply<f32>"),
     ("pescrondilu_q15_reply", "ReplyQ15", "Reply<i64>"),
     ("pescrondilu_readout", "Readout", "Readout"),
+    (
+        "pescrondilu_f32_summary",
+        "SummaryRecordF32",
+        "Summary<f32>",
+    ),
+    (
+        "pescrondilu_q15_summary",
+        "SummaryRecordQ15",
+        "Summary<i16>",
+    ),
+    (
+        "pescrondilu_f32_summary_reply",
+        "SummaryReplyF32",
+        "SummaryReply<f32,f32>",
+    ),
+    (
+        "pescrondilu_q15_summary_reply",
+        "SummaryReplyQ15",
+        "SummaryReply<i64,i16>",
+    ),
     ("pescrondilu_f32_scanned", "ScannedF32", "Scanned"),
     ("pescrondilu_nco", "Nco", "Nco"),
     ("pescrondilu_increment", "CodedIncrement", "CodedIncrement"),
@@ -266,7 +286,7 @@ pub fn rattle() -> Declared {
             if starts(&all[at..], &head) {
                 let name = &all[at + head.len()];
                 let open = at + head.len() + 1;
-                let fields = rust_fields(&all[open..closing(&all, open)], "");
+                let fields = rust_fields(&all[open..closing(&all, open)], &[]);
                 declared.fields(&in_c(name), fields);
             }
         }
@@ -292,13 +312,25 @@ fn rattle_parameter(part: &[String], parameters: &mut Vec<Named>) {
     }
 }
 
-/// The fields of a struct from its brace on, with `value` in the place of V.
-fn rust_fields(words: &[String], value: &str) -> Vec<Named> {
+/// The two formats: what stands in the place of V, a decoder's number, and of S, a sample.
+const FORMATS: [[(&str, &str); 2]; 2] =
+    [[("V", "f32"), ("S", "f32")], [("V", "i64"), ("S", "i16")]];
+
+/// The words with types in the place of parameters.
+fn replaced(words: &[String], types: &[(&str, &str)]) -> String {
+    let kind = |word: &String| match types.iter().find(|(parameter, _)| parameter == word) {
+        Some((_, kind)) => kind.to_string(),
+        None => word.clone(),
+    };
+    words.iter().map(kind).collect()
+}
+
+/// The fields of a struct from its brace on, with types in the place of parameters.
+fn rust_fields(words: &[String], types: &[(&str, &str)]) -> Vec<Named> {
     let inner = &words[1..words.len() - 1];
     let field = |part: &[String]| {
         assert!(part[0] == "pub" && part[2] == ":", "not a field: {part:?}");
-        let kind = part[3..].iter().map(|w| if w == "V" { value } else { w });
-        (part[1].clone(), in_c(&kind.collect::<String>()))
+        (part[1].clone(), in_c(&replaced(&part[3..], types)))
     };
     parts(inner).into_iter().map(field).collect()
 }
@@ -307,7 +339,14 @@ fn rust_fields(words: &[String], value: &str) -> Vec<Named> {
 
 pub fn rust_text() -> String {
     let mut text = String::new();
-    let files = ["lib.rs", "decoder.rs", "encoder.rs", "numbers.rs", "rds.rs"];
+    let files = [
+        "lib.rs",
+        "decoder.rs",
+        "encoder.rs",
+        "numbers.rs",
+        "rds.rs",
+        "summary.rs",
+    ];
     for file in files {
         let path = root().join("host/pescrondilu-sys/src").join(file);
         text.push_str(&without_line_comments(&read(&path)));
@@ -366,14 +405,9 @@ pub fn rust() -> Declared {
                 .expect("it has fields");
             let body = &here[open..closing(here, open)];
             let generic = here[3] == "<";
-            for value in if generic { &["f32", "i64"][..] } else { &[""] } {
-                let fields: Vec<String> = body.to_vec();
-                let name = if generic {
-                    format!("{}<{value}>", here[2])
-                } else {
-                    here[2].clone()
-                };
-                declared.fields(&in_c(&name), rust_fields(&fields, value));
+            for types in &FORMATS[..if generic { 2 } else { 1 }] {
+                let name = replaced(&here[2..open], types);
+                declared.fields(&in_c(&name), rust_fields(body, types));
             }
         }
     }

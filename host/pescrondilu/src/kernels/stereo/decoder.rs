@@ -107,7 +107,8 @@ impl StereoPllCoefficients {
 /// ```
 #[derive(Clone, Copy, Debug, PartialEq)]
 pub struct StereoPllState<T: RealSample> {
-    record: Decoder<T::Value>,
+    /// The summary's calls change it too.
+    pub(super) record: Decoder<T::Value>,
     coefficients: StereoPllCoefficients,
 }
 

@@ -1,0 +1,5 @@
+pub mod Fits
+pub mod Sign
+pub mod Noting
+pub mod Ways
+pub mod Free

@@ -1,0 +1,53 @@
+-- The counts of a summary, the same in both formats: its period, the stereo samples, mono samples and changes
+-- that it holds, and the decision of the sample before. Source: document 02, request 4. Definitions only.
+use Prim.Native.Nat.{ℕ, _+_, _/_, _%_, _^_}
+use mathlib.Core.Bool.{Bool, false, not, cond, _&&_}
+use lib.Dec.{eqb, ltb, leb}
+use Rattle.summary_counts.specs.declared.Counts.{Counts}
+
+-- a fresh one holds nothing and has mono before its first sample
+abbrev pub freshCounts : ℕ → Counts
+freshCounts period = record { period = period; stereo = 0; mono = 0; changes = 0; before = false }
+
+-- the samples held
+abbrev pub heldOf : Counts → ℕ
+heldOf c = c .stereo + c .mono
+
+-- the decisions of two samples are unlike
+abbrev pub unlike : Bool → Bool → Bool
+unlike a b = cond a (not b) b
+
+-- one sample more, by the decision after it
+abbrev pub countedOf : Counts → Bool → Counts
+countedOf c stereo = record {
+  period = c .period;
+  stereo = c .stereo + cond stereo 1 0;
+  mono = c .mono + cond stereo 0 1;
+  changes = c .changes + cond (unlike (c .before) stereo) 1 0;
+  before = stereo;
+}
+
+-- .. in u32, where each count wraps; those of a summary that is taken stay below its period
+abbrev pub wrapped : Counts → Counts
+wrapped c = record {
+  period = c .period;
+  stereo = c .stereo % 2 ^ 32;
+  mono = c .mono % 2 ^ 32;
+  changes = c .changes % 2 ^ 32;
+  before = c .before;
+}
+
+-- the period ends with the sample that fills it, and the next one holds nothing
+abbrev pub fullOf : Counts → Bool
+fullOf c = eqb (heldOf c) (c .period)
+
+abbrev pub emptied : Counts → Counts
+emptied c = record { period = c .period; stereo = 0; mono = 0; changes = 0; before = c .before }
+
+-- how many periods end within n samples more
+abbrev pub endingOf : Counts → ℕ → ℕ
+endingOf c n = (heldOf c + n) / c .period
+
+-- a period that is not 0 and that the samples held do not reach, and no more changes than these
+unfoldable pub countsFit : Counts → Bool
+countsFit c = not (eqb (c .period) 0) && (ltb (heldOf c) (c .period) && leb (c .changes) (heldOf c))
