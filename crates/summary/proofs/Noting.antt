@@ -13,7 +13,7 @@ use lib.Seq.{take-suc-set, take-all}
 use Rattle.answers.specs.Answer.{accepted}
 use Rattle.answers.specs.Samples.{samples}
 use Rattle.decoder_record.specs.State.{Pll}
-use Rattle.decoder.specs.Machine.{Arithmetic, stepOf, stepAt}
+use Rattle.decoder.specs.Machine.{Arithmetic, Blocked, stepOf, stepAt, runOf}
 use Rattle.decoder.proofs.Loops.{Going, going-start, going-next, going-end}
 use Rattle.summary_counts.specs.Counts.{heldOf, countedOf, fullOf, emptied, endingOf, countsFit}
 use Rattle.summary.specs.Summary.{Outcome, outcomeOf, Figures, Summary, figuresOf, Columns, columnsOf, Running, largerOf, noted, nextOf, through, begun, summaryRun}
@@ -46,6 +46,10 @@ pub record Placed {A : Type 0} (n : ℕ) (fs : List (Figures A)) (c : Columns A)
   pub mono : Column n (λ f. f .mono) fs (c .mono)
   pub changes : Column n (λ f. f .changes) fs (c .changes)
   pub magnitude : Column n (λ f. f .magnitude) fs (c .magnitude)
+
+-- all places are filled
+columns-end : {A : Type 0} {n : ℕ} {fs : List (Figures A)} {c : Columns A} → Placed n fs c → length fs ≡ n → c ≡ columnsOf fs
+columns-end p h = λ j. record { stereo = column-end (p .stereo) h j; mono = column-end (p .mono) h j; changes = column-end (p .changes) h j; magnitude = column-end (p .magnitude) h j }
 
 -- the columns with one more period at k
 abbrev pub placedAt : {A : Type 0} → ℕ → Columns A → Figures A → Columns A
@@ -193,6 +197,10 @@ module _ {A : Type 0} (F : Arithmetic A) (unsigned : A → Bool) (P : Unsigned F
   unfolding summaryRun
   noting-end {i} {k} {sum} {difference} {c} {st} {now} n h =
       let e : i ≡ length mpx = omega (arith, n .going .below) in
-      let all : length (n .finished) ≡ places =
-      n .count ∙ sym (div-eq-of-lt-le (s .counts .period) (omega (arith, n .passed, e)) (omega (arith, n .passed, e, n .fitted .counted .below, n .period))) in
-      rw (← going-end F t mpx pilot d (n .going) h, ← e, n .run, ← column-end (n .placed .stereo) all, ← column-end (n .placed .mono) all, ← column-end (n .placed .changes) all, ← column-end (n .placed .magnitude) all)
+      let all : length (n .finished) ≡ places = n .count
+          ∙ sym (div-eq-of-lt-le (s .counts .period) (omega (arith, n .passed, e)) (omega (arith, n .passed, e, n .fitted .counted .below, n .period)))
+      in
+      let r : record { finished = n .finished; summary = now } ≡ through F (begun s) (samples (length mpx) outcome) = rw (← e) (sym (n .run)) in
+      ap (λ (x : Columns A). record { said = accepted; sum = sum; difference = difference; columns = x; pll = st; summary = now }) (columns-end (n .placed) all)
+      ∙ ap (λ (b : Blocked A). record { said = b .said; sum = b .sum; difference = b .difference; columns = columnsOf (n .finished); pll = b .pll; summary = now }) (going-end F t mpx pilot d (n .going) h)
+      ∙ ap (λ (q : Running A). let b = runOf F d t mpx pilot in record { said = b .said; sum = b .sum; difference = b .difference; columns = columnsOf (q .finished); pll = b .pll; summary = q .summary }) r

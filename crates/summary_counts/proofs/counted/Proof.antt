@@ -1,5 +1,6 @@
 use borrow.Author.Needs.{needs}
-use mathlib.Core.Path.{_≡_, refl, _∙_}
+use Prim.Native.Nat.{ℕ, _+_, _%_, _^_}
+use mathlib.Core.Path.{_≡_, refl, ap, _∙_}
 use mathlib.Core.Logic.{⊎-elim}
 use mathlib.Core.Bool.{Bool, true, false, not, cond, Bool·beq}
 use Rattle.summary_counts.specs.Counts.{unlike, countedOf, wrapped}
@@ -34,8 +35,11 @@ returns c =
     let k = j .before in
     let j1 = k .before .before in
     let a = j1 .before .args in
+    let stereo = c .before .before .wrapping-add-u32 .ensures ∙ ap (λ (n : ℕ). (a .c .stereo + n) % 2 ^ 32) (s-is j1) in
+    let mono = c .before .wrapping-add-u322 .ensures ∙ ap (λ (n : ℕ). (a .c .mono + n) % 2 ^ 32) (m-is (k .before)) in
+    let changes = c .wrapping-add-u323 .ensures ∙ ap (λ (n : ℕ). (a .c .changes + n) % 2 ^ 32) (change-is j) in
     let e : record { period = a .c .period; stereo = c .before .before .wrapping-add-u32 .result; mono = c .before .wrapping-add-u322 .result; changes = c .wrapping-add-u323 .result; before = a .stereo } ≡ wrapped (countedOf (a .c) (a .stereo)) =
-    rw (c .before .before .wrapping-add-u32 .ensures, c .before .wrapping-add-u322 .ensures, c .wrapping-add-u323 .ensures, s-is j1, m-is (k .before), change-is j) in
+        rw (stereo, mono, changes) in
     (e, λ h. e ∙ unwrapped (a .c) (a .stereo) (counts-out (a .c) h) (k .struct-known .given .0 .fits))
 
 pub counted-spec : {M : Type 1} → statement M
