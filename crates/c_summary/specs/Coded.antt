@@ -6,7 +6,8 @@ use lib.Ieee.{Float}
 use Rattle.answers.specs.Answer.{codeOf}
 use Rattle.answers.specs.Coded.{onAt, switchOf}
 use Rattle.answers.specs.declared.answer.Code.{Code}
-use Rattle.summary.specs.Summary.{Summary, Columns, Summarized}
+use Rattle.summary_record.specs.Record.{Summary}
+use Rattle.summary.specs.Summary.{Columns, Summarized}
 use Rattle.c_decoder.specs.Coded.{Decoder, givenOf}
 use Rattle.c_summary.specs.declared.in_f32.SummaryRecordF32.{SummaryRecordF32}
 use Rattle.c_summary.specs.declared.in_q15.SummaryRecordQ15.{SummaryRecordQ15}

@@ -4,12 +4,13 @@ use answers::answer::code_of;
 use answers::switch::is_on;
 use answers::switch::switch_of;
 use c_decoder::in_f32::DecoderF32;
-use summary::SummaryF32;
 use summary_counts::Counts;
+use summary_record::in_f32::SummaryF32;
 ghost use mathlib.Core.Path.{_≡_};
 ghost use Rattle.decoder.specs.F32.{f32};
-ghost use Rattle.summary.specs.Summary.{freshSummary, summaryOf};
-ghost use Rattle.summary.specs.F32.{unsignedF32, summaryF32};
+ghost use Rattle.summary.specs.Summary.{summaryOf};
+ghost use Rattle.summary_record.specs.Record.{freshSummary};
+ghost use Rattle.summary_record.specs.F32.{unsignedF32, summaryF32};
 ghost use Rattle.c_decoder.specs.Coded.{decoderF32, takenOf};
 ghost use Rattle.c_summary.specs.Coded.{recordF32, takenSummary, givenSummary, codedSummary};
 

@@ -5,11 +5,12 @@ use answers::switch::is_on;
 use answers::switch::switch_of;
 use c_decoder::in_q15::DecoderQ15;
 use summary_counts::Counts;
-use summary_q15::SummaryQ15;
+use summary_record::in_q15::SummaryQ15;
 ghost use mathlib.Core.Path.{_≡_};
 ghost use Rattle.decoder_q15.specs.Q15.{q15};
-ghost use Rattle.summary.specs.Summary.{freshSummary, summaryOf};
-ghost use Rattle.summary_q15.specs.Q15.{unsignedQ15, summaryQ15};
+ghost use Rattle.summary.specs.Summary.{summaryOf};
+ghost use Rattle.summary_record.specs.Record.{freshSummary};
+ghost use Rattle.summary_record.specs.Q15.{unsignedQ15, summaryQ15};
 ghost use Rattle.c_decoder.specs.Coded.{decoderQ15, takenOf};
 ghost use Rattle.c_summary.specs.Coded.{recordQ15, takenSummary, givenSummary, codedSummary};
 

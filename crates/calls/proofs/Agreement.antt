@@ -12,8 +12,9 @@ use Rattle.answers.proofs.Causes.{made-same}
 use Rattle.decoder_record.specs.State.{Pll, enabledOf, resetOf}
 use Rattle.decoder.specs.Machine.{Arithmetic, Blocked, runOf, blockOf}
 use Rattle.merged.specs.Merged.{mergedBy, Merged, mergedOf}
-use Rattle.summary.specs.Summary.{Summary, Columns, columnsOf, Outcome, Running, Summarized, begun, through, summarySays, summaryRun, summaryOf}
-use Rattle.summary.proofs.Fits.{Unsigned}
+use Rattle.summary_record.specs.Record.{Summary}
+use Rattle.summary.specs.Summary.{Columns, columnsOf, Outcome, Running, Summarized, begun, through, summarySays, summaryRun, summaryOf}
+use Rattle.summary_record.proofs.Fits.{Unsigned}
 use Rattle.calls.specs.Events.{Event, after}
 use Rattle.calls.specs.Calls.{Core, Brought, Call, block, merged, summary, enable, disable, reset, Left, leaving, leavingSummary, done, callOf, machine, final, events}
 use Rattle.calls.specs.Demand.{lent, Arguments, BlockLearnt, SummaryLearnt, Decoder, Format, Constructed, seen, Leaves, MatrixOf, LeavesSummary, SummaryBy, plainDecoder, fastDecoder, OwnMatrix, OwnSummary, May, Runs, lastRecord, After, Demand}

@@ -14,8 +14,9 @@ use Rattle.answers.proofs.Causes.{none-yet}
 use Rattle.decoder_record.specs.State.{Pll, enabledOf, resetOf}
 use Rattle.decoder.specs.Machine.{Arithmetic, Blocked, blockSays}
 use Rattle.merged.specs.Merged.{Merged, mergedOf}
-use Rattle.summary_counts.specs.Counts.{endingOf}
-use Rattle.summary.specs.Summary.{Summary, Columns, Summarized, summaryFit, summarySays}
+use Rattle.summary_counts.specs.Counts.{placesOf}
+use Rattle.summary_record.specs.Record.{Summary, summaryFit}
+use Rattle.summary.specs.Summary.{Columns, Summarized, summarySays}
 use Rattle.calls.specs.Calls.{Core, Brought, Call, block, merged, summary, enable, disable, reset, Left, leaving, done}
 use Rattle.calls.specs.Demand.{Place, lent, BlockLearnt, SummaryLearnt, Decoder, Format, Leaves, MatrixOf, LeavesSummary, SummaryBy, firstOf, plainDecoder, fastDecoder, May, Runs}
 use Rattle.calls.proofs.Steps.{saysOf, ownBlock, block-said, ownSummary, summary-said, outcomesIn, steps-shown}
@@ -53,7 +54,7 @@ block-sayable F m t n p s d =
 
 summary-sayable : {A : Type 0} (F : Arithmetic A) (unsigned : A → Bool) (s : Summary A) (own : Said) (n : ℕ) (c : Columns A) → Sayable own → Sayable (summarySays F unsigned s own n c)
 summary-sayable F unsigned s own n c b =
-    let places = endingOf (s .counts) n in
+    let places = placesOf (s .counts) n in
     or-sayable (rule 20 (summaryFit F unsigned s)) _ (rule-sayable 20 (summaryFit F unsigned s) (answer.Summary, refl))
     (or-sayable own _ b
     (output-sayable places (length (c .stereo)) _

@@ -12,8 +12,8 @@ use Rattle.decoder_record.specs.declared.pll_q15.NewQ15.the-variants as q15-new
 use Rattle.decoder_record.proofs.Fit.{fitted}
 use Rattle.decoder_record.proofs.Fresh.{made-f32, made-q15, fit-new}
 use Rattle.decoder_q15.specs.Q15.{q15}
-use Rattle.summary.proofs.Sign.{unsigned-f32}
-use Rattle.summary_q15.proofs.Difference.{unsigned-q15}
+use Rattle.summary_record.proofs.Sign.{unsigned-f32}
+use Rattle.summary_record.proofs.Negative.{unsigned-q15}
 use Rattle.calls.specs.Events.{after}
 use Rattle.calls.proofs.LimitF32.{bounded-new, bounded-always}
 use Rattle.calls.proofs.LimitQ15.{fit-always}

@@ -9,7 +9,8 @@ use Rattle.answers.specs.Samples.{samples}
 use Rattle.decoder_record.specs.State.{Pll}
 use Rattle.decoder.specs.Machine.{Arithmetic, Blocked, stateAt, runOf, blockSays, blockOf}
 use Rattle.merged.specs.Merged.{mergedOf}
-use Rattle.summary.specs.Summary.{Summary, Columns, Summarized, summarySays, summaryRun, summaryOf}
+use Rattle.summary_record.specs.Record.{Summary}
+use Rattle.summary.specs.Summary.{Columns, Summarized, summarySays, summaryRun, summaryOf}
 use Rattle.calls.specs.Events.{Event, sample, eventOf, after}
 use Rattle.calls.specs.Calls.{Core, Brought, Call, block, merged, summary, enable, disable, reset, callOf, samplesOf, eventsOf, final, events}
 
@@ -35,9 +36,10 @@ module _ {A : Type 0} (C : Core A) where
       → said new ≡ accepted → pll new ≡ runOf F d (b .table) (b .mpx) (b .pilot) .pll → said old ≡ says → pll old ≡ d
       → pll (kept says new old) ≡ after F d (samplesOf C (said (kept says new old)) b)
   unfolding runOf
-  kept-after said pll d b accepted new old e p f q = rw (e, p) (after-samples F (b .table) (b .mpx) (b .pilot) d (length (b .mpx)))
-  kept-after said pll d b (turned n) new old e p f q = rw f q
-  kept-after said pll d b (lengths n x y) new old e p f q = rw f q
+  kept-after said pll d b accepted new old e p f q =
+      p ∙ after-samples F (b .table) (b .mpx) (b .pilot) d (length (b .mpx)) ∙ ap (λ (s : Said). after F d (samplesOf C s b)) (sym e)
+  kept-after said pll d b (turned n) new old e p f q = q ∙ ap (λ (s : Said). after F d (samplesOf C s b)) (sym f)
+  kept-after said pll d b (lengths n x y) new old e p f q = q ∙ ap (λ (s : Said). after F d (samplesOf C s b)) (sym f)
 
   block-after : (d : Pll A) (b : Brought A) → callOf C d (block b) .decoder ≡ after F d (eventsOf C d (block b))
   unfolding blockOf runOf

@@ -20,11 +20,11 @@ use Rattle.decoder_record.specs.declared.pll_q15.NewQ15.{NewQ15}
 use Rattle.decoder_record.specs.declared.pll_q15.NewQ15.the-variants as q15-new
 use Rattle.decoder.specs.declared.parts.ReplyF32.{ReplyF32}
 use Rattle.decoder_q15.specs.declared.parts.ReplyQ15.{ReplyQ15}
-use Rattle.summary.specs.F32.{summaryF32}
-use Rattle.summary.specs.declared.SummaryF32.{SummaryF32}
+use Rattle.summary_record.specs.F32.{summaryF32}
+use Rattle.summary_record.specs.declared.in_f32.SummaryF32.{SummaryF32}
 use Rattle.summary.specs.declared.SummarizedF32.{SummarizedF32}
-use Rattle.summary_q15.specs.Q15.{summaryQ15}
-use Rattle.summary_q15.specs.declared.SummaryQ15.{SummaryQ15}
+use Rattle.summary_record.specs.Q15.{summaryQ15}
+use Rattle.summary_record.specs.declared.in_q15.SummaryQ15.{SummaryQ15}
 use Rattle.summary_q15.specs.declared.SummarizedQ15.{SummarizedQ15}
 use Rattle.calls.specs.Events.{UnitTables, Pilots16}
 use Rattle.calls.specs.Cores.{coreF32, coreQ15}

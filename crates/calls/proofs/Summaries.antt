@@ -8,8 +8,9 @@ use Rattle.answers.specs.Answer.{accepts}
 use Rattle.answers.proofs.Causes.{none-yet}
 use Rattle.decoder_record.specs.State.{Pll}
 use Rattle.decoder.specs.Machine.{Arithmetic}
-use Rattle.summary.specs.Summary.{Outcome, outcomeOf, Figures, Summary, Columns, columnsOf, Running, freshSummary, through, begun, summaryFit, summaryRun}
-use Rattle.summary.proofs.Fits.{Unsigned, fitted, fit-in}
+use Rattle.summary_record.specs.Record.{Summary, freshSummary, summaryFit}
+use Rattle.summary.specs.Summary.{Outcome, outcomeOf, Figures, Columns, columnsOf, Running, through, begun, summaryRun}
+use Rattle.summary_record.proofs.Fits.{Unsigned, fitted, fit-in}
 use Rattle.calls.specs.Events.{after}
 use Rattle.calls.specs.Calls.{Core, Brought, Call, Left, events}
 use Rattle.calls.specs.Demand.{Decoder, Format, seen, Runs, lastRecord, plainDecoder, fastDecoder}

@@ -4,8 +4,8 @@ use lib.Ieee.{Float}
 use Rattle.matrix.specs.Matrix.{filledF32, filledQ15}
 use Rattle.decoder.specs.F32.{f32}
 use Rattle.decoder_q15.specs.Q15.{q15}
-use Rattle.summary.specs.F32.{unsignedF32}
-use Rattle.summary_q15.specs.Q15.{unsignedQ15}
+use Rattle.summary_record.specs.F32.{unsignedF32}
+use Rattle.summary_record.specs.Q15.{unsignedQ15}
 use Rattle.calls.specs.Calls.{Core}
 
 abbrev pub coreF32 : Core Float

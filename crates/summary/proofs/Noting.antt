@@ -16,9 +16,11 @@ use Rattle.decoder_record.specs.State.{Pll}
 use Rattle.decoder.specs.Machine.{Arithmetic, Blocked, stepOf, stepAt, runOf}
 use Rattle.decoder.proofs.Loops.{Going, going-start, going-next, going-end}
 use Rattle.summary_counts.specs.Counts.{heldOf, countedOf, fullOf, emptied, endingOf, countsFit}
-use Rattle.summary.specs.Summary.{Outcome, outcomeOf, Figures, Summary, figuresOf, Columns, columnsOf, Running, largerOf, noted, nextOf, through, begun, summaryRun}
+use Rattle.summary_record.specs.Record.{Summary, largerOf}
+use Rattle.summary.specs.Summary.{Outcome, outcomeOf, Figures, figuresOf, Columns, columnsOf, Running, noted, nextOf, through, begun, summaryRun}
 use Rattle.summary_counts.proofs.Fits.{counts-in, one-more}
-use Rattle.summary.proofs.Fits.{Unsigned, Fitted, fit-next}
+use Rattle.summary_record.proofs.Fits.{Unsigned, Fitted}
+use Rattle.summary.proofs.Fits.{fit-next}
 use Rattle.summary_counts.specs.declared.Counts.{Counts}
 
 -- ---- a column: the places of the finished periods are filled
@@ -198,7 +200,7 @@ module _ {A : Type 0} (F : Arithmetic A) (unsigned : A → Bool) (P : Unsigned F
   noting-end {i} {k} {sum} {difference} {c} {st} {now} n h =
       let e : i ≡ length mpx = omega (arith, n .going .below) in
       let all : length (n .finished) ≡ places = n .count
-          ∙ sym (div-eq-of-lt-le (s .counts .period) (omega (arith, n .passed, e)) (omega (arith, n .passed, e, n .fitted .counted .below, n .period)))
+      ∙ sym (div-eq-of-lt-le (s .counts .period) (omega (arith, n .passed, e)) (omega (arith, n .passed, e, n .fitted .counted .below, n .period)))
       in
       let r : record { finished = n .finished; summary = now } ≡ through F (begun s) (samples (length mpx) outcome) = rw (← e) (sym (n .run)) in
       ap (λ (x : Columns A). record { said = accepted; sum = sum; difference = difference; columns = x; pll = st; summary = now }) (columns-end (n .placed) all)

@@ -1,18 +1,19 @@
--- The ways out of a block with summaries, over the format: b is what the block itself would answer, p how many
--- places the columns are to have, a the answer, and ok what the code's test of it says. Assumes nothing.
+-- The ways out of a block with summaries, over the format: fit says whether the summary is taken, b is what the
+-- block itself would answer, a the answer, and ok what the code's test of it says. Assumes nothing.
 use Prim.Native.Nat.{ℕ}
 use mathlib.Core.Path.{_≡_, sym, ap, _∙_}
 use mathlib.Core.Bool.{Bool, true, false, not, cond}
 use mathlib.Core.List.{List, [], _∷_}
 use lib.ListN.{length}
-use Rattle.answers.specs.Answer.{Said, turned, accepts, entries, rule, outputRule, firstCause}
-use Rattle.answers.proofs.Causes.{each, both, length-is, rule-passed}
+use Rattle.answers.specs.Answer.{Said, accepts, entries, rule, outputRule}
+use Rattle.answers.proofs.Causes.{AllAccept, each, both, length-is, rule-passed}
 use Rattle.answers.proofs.Tests.{failed, passed, and-out}
 use Rattle.decoder_record.specs.State.{Pll}
 use Rattle.decoder.specs.Machine.{Arithmetic, blockSays}
 use Rattle.decoder.proofs.Loops.{lengths-equal}
-use Rattle.summary_counts.specs.Counts.{endingOf, countsFit}
-use Rattle.summary.specs.Summary.{Summary, Columns, Summarized, summaryFit, summarySays, summaryRun, summaryOf}
+use Rattle.summary_counts.specs.Counts.{endingOf, countsFit, placesOf, callSays}
+use Rattle.summary_record.specs.Record.{Summary, summaryFit}
+use Rattle.summary.specs.Summary.{Columns, Summarized, summarySays, summaryRun, summaryOf}
 
 module _ {A : Type 0} (F : Arithmetic A) (unsigned : A → Bool) (d : Pll A) (s : Summary A) (t mpx pilot sum difference : List A) (c : Columns A) where
   abbrev own : Said
@@ -32,22 +33,14 @@ module _ {A : Type 0} (F : Arithmetic A) (unsigned : A → Bool) (d : Pll A) (s 
     pub filled : (length (c .stereo) ≡ places) × (length (c .mono) ≡ places) × (length (c .changes) ≡ places) × (length (c .magnitude) ≡ places)
     pub fit-record : F .fit d ≡ true
 
-  pub unfit : {ok : Bool} → ok ≡ summaryFit F unsigned s → not ok ≡ true
-      → record { said = turned 20; sum = sum; difference = difference; columns = c; pll = d; summary = s } ≡ summaryOf F unsigned d s t mpx pilot sum difference c
-  unfolding summaryOf
-  unfit k h = rw (failed k h)
-
-  module _ (fit : summaryFit F unsigned s ≡ true) {b a : Said} {p : ℕ} (eb : b ≡ own) (ep : p ≡ cond (countsFit (s .counts)) places 0)
-      (ea : a ≡ firstCause (later b p)) {ok : Bool} (k : ok ≡ accepts a) where
-    p-is : p ≡ places
-    unfolding summaryFit
-    p-is = ep ∙ rw (and-out (countsFit (s .counts)) _ fit .0)
-
-    later-is : a ≡ firstCause (later own places)
-    later-is = ea ∙ ap (λ (x : Said). firstCause (later x p)) eb ∙ ap (λ (n : ℕ). firstCause (later own n)) p-is
-
+  module _ {fit : Bool} (ef : fit ≡ summaryFit F unsigned s) {b a : Said} (eb : b ≡ own)
+      (ea : a ≡ callSays fit (s .counts) b (length mpx) (length (c .stereo)) (length (c .mono)) (length (c .changes)) (length (c .magnitude)))
+      {ok : Bool} (k : ok ≡ accepts a) where
     says-is : a ≡ summarySays F unsigned s own (length mpx) c
-    says-is = later-is ∙ rw fit
+    says-is =
+        ea
+        ∙ ap (λ (f : Bool). callSays f (s .counts) b (length mpx) (length (c .stereo)) (length (c .mono)) (length (c .changes)) (length (c .magnitude))) ef
+        ∙ ap (λ (x : Said). summarySays F unsigned s x (length mpx) c) eb
 
     pub turned-back : not ok ≡ true
         → record { said = a; sum = sum; difference = difference; columns = c; pll = d; summary = s } ≡ summaryOf F unsigned d s t mpx pilot sum difference c
@@ -55,19 +48,28 @@ module _ {A : Type 0} (F : Arithmetic A) (unsigned : A → Bool) (d : Pll A) (s 
     turned-back h = rw (← says-is, failed k h)
 
     module _ (h : not ok ≡ false) where
-      accepted-own : accepts own ≡ true
-      accepted-own = both own _ (ap accepts (sym later-is) ∙ passed k h) .0
+      all : AllAccept (rule 20 (summaryFit F unsigned s) ∷ later own (placesOf (s .counts) (length mpx)))
+      all = each (rule 20 (summaryFit F unsigned s) ∷ later own (placesOf (s .counts) (length mpx))) (ap accepts (sym says-is) ∙ passed k h)
+
+      pub fit-summary : summaryFit F unsigned s ≡ true
+      fit-summary = rule-passed 20 (summaryFit F unsigned s) (all .0)
+
+      places-are : placesOf (s .counts) (length mpx) ≡ places
+      unfolding summaryFit
+      places-are = rw (and-out (countsFit (s .counts)) _ fit-summary .0)
 
       -- what a loop asks for
       pub asked : Asked
       asked =
-          let own-lengths = lengths-equal (length t) (length mpx) (length pilot) (length sum) (length difference) (both (rule 0 (F .fit d)) _ accepted-own .1) in
-          let x = each (later own places) (ap accepts (sym later-is) ∙ passed k h) in
+          let o = both (rule 0 (F .fit d)) _ (all .1 .0) in
+          let own-lengths = lengths-equal (length t) (length mpx) (length pilot) (length sum) (length difference) (o .1) in
+          let x = all .1 .1 in
+          let p = placesOf (s .counts) (length mpx) in
           record {
             table = own-lengths .3;
             even = (own-lengths .0, own-lengths .1, own-lengths .2);
-            filled = (length-is 11 places (length (c .stereo)) (x .1 .0), length-is 11 places (length (c .mono)) (x .1 .1 .0), length-is 11 places (length (c .changes)) (x .1 .1 .1 .0), length-is 11 places (length (c .magnitude)) (x .1 .1 .1 .1 .0));
-            fit-record = rule-passed 0 (F .fit d) (both (rule 0 (F .fit d)) _ accepted-own .0);
+            filled = (length-is 11 p (length (c .stereo)) (x .0) ∙ places-are, length-is 11 p (length (c .mono)) (x .1 .0) ∙ places-are, length-is 11 p (length (c .changes)) (x .1 .1 .0) ∙ places-are, length-is 11 p (length (c .magnitude)) (x .1 .1 .1 .0) ∙ places-are);
+            fit-record = rule-passed 0 (F .fit d) (o .0);
           }
 
       pub carried-out : {r : Summarized A} → r ≡ summaryRun F d s t mpx pilot → r ≡ summaryOf F unsigned d s t mpx pilot sum difference c

@@ -1,16 +1,15 @@
 -- A summary beside the pairs, over the format: figures for each period of a chosen number of samples, from the
 -- decision and the difference output after each sample. Source: document 02, request 4. Definitions only.
 use Prim.Native.Nat.{ℕ}
-use mathlib.Core.Bool.{Bool, not, cond, _&&_, _||_}
+use mathlib.Core.Bool.{Bool, cond}
 use mathlib.Core.List.{List, [], _∷_, _++_, map}
-use lib.Dec.{ltb}
 use lib.ListN.{length}
-use Rattle.answers.specs.Answer.{Said, rule, outputRule, firstCause, kept}
+use Rattle.answers.specs.Answer.{Said, kept}
 use Rattle.answers.specs.Samples.{samples}
 use Rattle.decoder_record.specs.State.{Pll}
 use Rattle.decoder.specs.Machine.{Arithmetic, Stepped, stepAt, runOf, blockSays}
-use Rattle.summary_counts.specs.declared.Counts.{Counts}
-use Rattle.summary_counts.specs.Counts.{freshCounts, heldOf, countedOf, fullOf, emptied, endingOf, countsFit}
+use Rattle.summary_counts.specs.Counts.{countedOf, fullOf, emptied, callSays}
+use Rattle.summary_record.specs.Record.{Summary, largerOf, summaryFit}
 
 -- ---- what a summary reads of a sample: the decision after it, and its difference output
 pub record Outcome (A : Type 0) : Type 0 where
@@ -26,11 +25,6 @@ pub record Figures (A : Type 0) : Type 0 where
   pub stereo : ℕ
   pub mono : ℕ
   pub changes : ℕ
-  pub magnitude : A
-
--- a summary's record: its counts, and the magnitude that it holds
-pub record Summary (A : Type 0) : Type 0 where
-  pub counts : Counts
   pub magnitude : A
 
 abbrev pub figuresOf : {A : Type 0} → Summary A → Figures A
@@ -75,17 +69,10 @@ pub record Summarized (A : Type 0) : Type 0 where
 
 -- ---- over the format, by its arithmetic
 module _ {A : Type 0} (F : Arithmetic A) where
-  abbrev pub freshSummary : ℕ → Summary A
-  freshSummary period = record { counts = freshCounts period; magnitude = F .nought }
-
-  -- the largest of a magnitude, a difference and its negative; a NaN is above nothing and is passed over
-  abbrev pub largerOf : A → A → A
-  largerOf m y = let a = cond (F .under m y) y m in cond (F .under a (F .minus y)) (F .minus y) a
-
   -- one sample more, and the end of its period
   abbrev pub noted : Summary A → Outcome A → Summary A
   noted s o =
-      record { counts = countedOf (s .counts) (o .stereo); magnitude = largerOf (s .magnitude) (o .difference) }
+      record { counts = countedOf (s .counts) (o .stereo); magnitude = largerOf F (s .magnitude) (o .difference) }
 
   abbrev pub closed : Running A → Running A
   closed r =
@@ -119,27 +106,13 @@ module _ {A : Type 0} (F : Arithmetic A) where
         summary = r .summary;
       }
 
--- ---- the call; `unsigned` says of a magnitude that it is no NaN and that its sign bit is not set
+-- ---- the call; `unsigned` says which magnitudes it takes
 module _ {A : Type 0} (F : Arithmetic A) (unsigned : A → Bool) where
-  -- cause 20, which is in force unless the counts are fit, and the magnitude is unsigned, and 0 where no sample
-  -- is held
-  unfoldable pub summaryFit : Summary A → Bool
-  summaryFit s =
-      countsFit (s .counts)
-      && (unsigned (s .magnitude) && (ltb 0 (heldOf (s .counts)) || not (F .under (F .nought) (s .magnitude))))
-
   -- 20, the block's own causes, then 11 for each column: as many places as periods end in n samples
   abbrev pub summarySays : Summary A → Said → ℕ → Columns A → Said
   summarySays s block n c =
-      let places = endingOf (s .counts) n in
-      firstCause
-      (rule 20 (summaryFit s)
-      ∷ block
-      ∷ outputRule places (length (c .stereo))
-      ∷ outputRule places (length (c .mono))
-      ∷ outputRule places (length (c .changes))
-      ∷ outputRule places (length (c .magnitude))
-      ∷ [])
+      callSays (summaryFit F unsigned s) (s .counts) block n
+      (length (c .stereo)) (length (c .mono)) (length (c .changes)) (length (c .magnitude))
 
   -- what the samples give, or all stays
   unfoldable pub summaryOf : Pll A → Summary A

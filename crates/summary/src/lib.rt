@@ -5,10 +5,12 @@ use answers::answer::is_accepted;
 use decoder::fast::step_checked;
 use decoder::lengths::block_lengths;
 use decoder_record::pll_f32::StereoPllF32;
-use summary_counts::Counts;
-use summary_counts::columns_answer;
 use summary_counts::counted;
 use summary_counts::is_full;
+use summary_counts::summary_answer;
+use summary_record::in_f32::SummaryF32;
+use summary_record::in_f32::is_fit;
+use summary_record::in_f32::larger;
 ghost use mathlib.Core.Path.{_≡_};
 ghost use mathlib.Core.Bool.{true};
 ghost use lib.ListN.{length};
@@ -16,20 +18,9 @@ ghost use Rattle.answers.specs.Answer.{says, entries};
 ghost use Rattle.decoder.specs.F32.{f32};
 ghost use Rattle.decoder_record.specs.Records.{pllF32};
 ghost use Rattle.summary_counts.specs.Counts.{endingOf};
-ghost use Rattle.summary.specs.Summary.{
-  freshSummary,
-  largerOf,
-  summaryFit,
-  summaryRun,
-  summaryOf,
-};
-ghost use Rattle.summary.specs.F32.{unsignedF32, summaryF32};
-
-// A summary's record.
-pub struct SummaryF32 {
-    pub counts: Counts,
-    pub magnitude: f32,
-}
+ghost use Rattle.summary.specs.Summary.{summaryRun, summaryOf};
+ghost use Rattle.summary_record.specs.Record.{summaryFit};
+ghost use Rattle.summary_record.specs.F32.{unsignedF32, summaryF32};
 
 // A decoder and a summary after a block, and the answer.
 pub struct SummarizedF32 {
@@ -38,51 +29,12 @@ pub struct SummarizedF32 {
     pub summary: SummaryF32,
 }
 
-impl SummaryF32 {
-    // A fresh summary.
-    pub fn new(period: u32) -> SummaryF32
-        ensures { λ r. ⌜ summaryF32 r ≡ freshSummary f32 period ⌝ }
-    {
-        SummaryF32 {
-            counts: summary_counts::fresh(period),
-            magnitude: 0.0,
-        }
-    }
-}
-
-// No NaN, and the sign bit not set.
-fn is_unsigned(m: f32) -> bool
-    ensures { λ r. ⌜ r ≡ unsignedF32 m ⌝ }
-{
-    if m != m {
-        return false;
-    }
-    f32::to_bits(m) < 2147483648
-}
-
-// Whether a call takes the summary.
-pub fn is_fit(s: SummaryF32) -> bool
-    ensures { λ r. ⌜ r ≡ summaryFit f32 unsignedF32 (summaryF32 s) ⌝ }
-{
-    let empty = summary_counts::held(s.counts) == 0;
-    let rest = is_unsigned(s.magnitude) & !(empty & (s.magnitude > 0.0));
-    summary_counts::is_fit(s.counts) & rest
-}
-
 // The table with its length written out, so that the compiler leaves the test out of each lookup.
 fn full_table(table: &[f32]) -> &[f32]
     requires { ⌜ length (now table) ≡ entries ⌝ }
     ensures { λ r. ⌜ now r ≡ now (table .entry) ⌝ }
 {
     &table[..ENTRIES]
-}
-
-// The magnitude m with the difference y.
-fn larger(m: f32, y: f32) -> f32
-    ensures { λ r. ⌜ r ≡ largerOf f32 m y ⌝ }
-{
-    let a = if m < y { y } else { m };
-    if a < -y { -y } else { a }
 }
 
 // The samples in order.
@@ -190,23 +142,18 @@ pub fn block(
           magnitude = now (magnitudes .entry);
         }) ⌝ }
 {
-    if !is_fit(s) {
-        return SummarizedF32 {
-            answer: Answer::Summary,
-            decoder: d,
-            summary: s,
-        };
-    }
-    let a = block_lengths(
+    let own = block_lengths(
         table.len(),
         mpx.len(),
         pilot.len(),
         sum.len(),
         difference.len(),
     );
-    let answer = columns_answer(
-        a,
-        summary_counts::ending(s.counts, mpx.len()),
+    let answer = summary_answer(
+        is_fit(s),
+        s.counts,
+        own,
+        mpx.len(),
         stereos.len(),
         monos.len(),
         changes.len(),

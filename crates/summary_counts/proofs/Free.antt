@@ -8,7 +8,7 @@ use Rattle.summary_counts.proofs.counted.Reads as counted
 use Rattle.summary_counts.proofs.is_full.Reads as is-full
 use Rattle.summary_counts.proofs.empty.Reads as empty
 use Rattle.summary_counts.proofs.ending.Reads as ending
-use Rattle.summary_counts.proofs.columns_answer.Reads as columns-answer
+use Rattle.summary_counts.proofs.summary_answer.Reads as summary-answer
 
 pub nothing-asked :
     (fresh.Asked ≡ λ κs a. Unit {0})
@@ -18,5 +18,5 @@ pub nothing-asked :
     × (is-full.Asked ≡ λ κs a. Unit {0})
     × (empty.Asked ≡ λ κs a. Unit {0})
     × (ending.Asked ≡ λ κs a. Unit {0})
-    × (columns-answer.Asked ≡ λ κs a. Unit {0})
+    × (summary-answer.Asked ≡ λ κs a. Unit {0})
 nothing-asked = (refl, refl, refl, refl, refl, refl, refl, refl)

@@ -2,7 +2,9 @@
 -- that it holds, and the decision of the sample before. Source: document 02, request 4. Definitions only.
 use Prim.Native.Nat.{ℕ, _+_, _/_, _%_, _^_}
 use mathlib.Core.Bool.{Bool, false, not, cond, _&&_}
+use mathlib.Core.List.{[], _∷_}
 use lib.Dec.{eqb, ltb, leb}
+use Rattle.answers.specs.Answer.{Said, rule, outputRule, firstCause}
 use Rattle.summary_counts.specs.declared.Counts.{Counts}
 
 -- a fresh one holds nothing and has mono before its first sample
@@ -51,3 +53,20 @@ endingOf c n = (heldOf c + n) / c .period
 -- a period that is not 0 and that the samples held do not reach, and no more changes than these
 unfoldable pub countsFit : Counts → Bool
 countsFit c = not (eqb (c .period) 0) && (ltb (heldOf c) (c .period) && leb (c .changes) (heldOf c))
+
+-- the places of the columns: none for counts that are not fit, which no call takes
+abbrev pub placesOf : Counts → ℕ → ℕ
+placesOf c n = cond (countsFit c) (endingOf c n) 0
+
+-- 20 unless the summary is fit, then what the block says, then 11 for each column, of these lengths
+abbrev pub callSays : Bool → Counts → Said → ℕ → ℕ → ℕ → ℕ → ℕ → Said
+callSays fit c block n stereo mono changes magnitude =
+    let places = placesOf c n in
+    firstCause
+    (rule 20 fit
+    ∷ block
+    ∷ outputRule places stereo
+    ∷ outputRule places mono
+    ∷ outputRule places changes
+    ∷ outputRule places magnitude
+    ∷ [])

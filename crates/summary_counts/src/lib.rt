@@ -2,9 +2,8 @@
 use answers::answer::Answer;
 use answers::answer::then_output;
 ghost use mathlib.Core.Path.{_≡_};
-ghost use mathlib.Core.Bool.{cond, true};
-ghost use mathlib.Core.List.{_∷_, []};
-ghost use Rattle.answers.specs.Answer.{says, outputRule, firstCause};
+ghost use mathlib.Core.Bool.{true};
+ghost use Rattle.answers.specs.Answer.{says};
 ghost use Rattle.summary_counts.specs.Counts.{
   freshCounts,
   heldOf,
@@ -14,6 +13,8 @@ ghost use Rattle.summary_counts.specs.Counts.{
   emptied,
   endingOf,
   countsFit,
+  placesOf,
+  callSays,
 };
 
 // The samples of a period, what is held of an unfinished one, and the decision of the sample before.
@@ -88,7 +89,7 @@ pub fn empty(c: Counts) -> Counts
 // How many periods end within n samples more, or 0 for counts that are not fit: the first one ends with
 // the sample that fills what is held. Most blocks end none, and need no division.
 pub fn ending(c: Counts, n: usize) -> usize
-    ensures { λ r. ⌜ r ≡ cond (countsFit c) (endingOf c n) 0 ⌝ }
+    ensures { λ r. ⌜ r ≡ placesOf c n ⌝ }
 {
     if !is_fit(c) {
         return 0;
@@ -101,19 +102,24 @@ pub fn ending(c: Counts, n: usize) -> usize
     1 + (n - room) / p
 }
 
-// Then the lengths of the four columns, in order.
-pub fn columns_answer(
-    a: Answer,
-    places: usize,
+// What a call with a summary answers: 20 where the summary is not fit, then what the block answers, then
+// the lengths of the four columns in order.
+pub fn summary_answer(
+    fit: bool,
+    c: Counts,
+    block: Answer,
+    n: usize,
     stereo: usize,
     mono: usize,
     changes: usize,
     magnitude: usize,
 ) -> Answer
-    ensures { λ r. ⌜ says r
-        ≡ firstCause (says a ∷ outputRule places stereo ∷ outputRule places mono ∷ outputRule places changes
-        ∷ outputRule places magnitude ∷ []) ⌝ }
+    ensures { λ r. ⌜ says r ≡ callSays fit c (says block) n stereo mono changes magnitude ⌝ }
 {
-    let b = then_output(then_output(a, places, stereo), places, mono);
+    if !fit {
+        return Answer::Summary;
+    }
+    let places = ending(c, n);
+    let b = then_output(then_output(block, places, stereo), places, mono);
     then_output(then_output(b, places, changes), places, magnitude)
 }

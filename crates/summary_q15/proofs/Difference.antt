@@ -1,18 +1,15 @@
--- Q15 differences and magnitudes: a difference is never -32768, so that its magnitude is a sample; and the larger
--- of two. Assumes nothing.
+-- A Q15 difference is never -32768, so that its magnitude is a sample. Assumes nothing.
 use Prim.Native.Nat.{ℕ, suc, _+_, _*_, _≤_}
-use mathlib.Core.Path.{_≡_, refl, ap, _∙_}
-use mathlib.Core.Bool.{Bool, true, false, cond, _&&_, false≢true}
+use mathlib.Core.Path.{_≡_, refl}
+use mathlib.Core.Bool.{Bool, true, false, cond, _&&_}
 use mathlib.Core.List.{List}
 use native.Mathlib.Nat.{mul-le-mul}
 use native.Mathlib.Omega.{arith}
-use borrow.Author.Tests.{le-leb}
-use lib.IntN.{ℤ, pos, negsuc, negℤ, _-ℤ_, _*ℤ_, *ℤ-comm, +ℤ-idl}
-use lib.Signed.{ltZ, leZ}
+use lib.IntN.{ℤ, pos, negsuc, _*ℤ_, *ℤ-comm}
+use lib.Signed.{ltZ}
 use mir.Syntax.{w16}
-use mir.Val.{SFits, toZ, ofZ}
-use mir.Facts.{toZ-ofZ}
-use Rattle.rounding.proofs.Lin.{up, dn, sub-law', le-yes, le-yes-in, fit-out, fit-in, dn-mul}
+use mir.Val.{SFits}
+use Rattle.rounding.proofs.Lin.{up, dn, lt-no-in, fit-out, dn-mul}
 use Rattle.numbers.specs.Integers.{sat16Of, roundShiftOf}
 use Rattle.numbers.proofs.Integers.{sat-mono, round-mono}
 use Rattle.phase.specs.Lookup.{cosQ15, sineAt}
@@ -20,9 +17,6 @@ use Rattle.phase.proofs.Between.{cosQ15-fits}
 use Rattle.decoder_record.specs.State.{Pll}
 use Rattle.decoder.specs.Machine.{decide, stepOf}
 use Rattle.decoder_q15.specs.Q15.{q15, levelQ15}
-use Rattle.summary.specs.Summary.{largerOf}
-use Rattle.summary.proofs.Fits.{Unsigned, unsigned-by}
-use Rattle.summary_q15.specs.Q15.{unsignedQ15}
 
 -- ---- a product of two i16 is at least -32768 times 32767
 abbrev least : ℤ
@@ -49,7 +43,7 @@ at-least : sat16Of (roundShiftOf least 15) ≡ negsuc 32766
 unfolding sat16Of roundShiftOf
 at-least = refl
 
-pub difference-above : (t : List ℤ) (d : Pll ℤ) (x p : ℤ) → SFits w16 x → leZ (negsuc 32766) (stepOf q15 t d x p .difference) ≡ true
+pub difference-above : (t : List ℤ) (d : Pll ℤ) (x p : ℤ) → SFits w16 x → ltZ (stepOf q15 t d x p .difference) (negsuc 32766) ≡ false
 unfolding stepOf
 difference-above t d x p f =
     go (decide q15 (levelQ15 (d .gains .beta) (d .moving .level) (p *ℤ cosQ15 t (sineAt 1 (d .moving .phase)))) (d .gains .on) (d .gains .off) (d .moving .stereo) && d .enabled)
@@ -57,33 +51,8 @@ difference-above t d x p f =
     z : ℤ
     z = x *ℤ cosQ15 t (sineAt 2 (d .moving .phase))
 
-    go : (b : Bool) → leZ (negsuc 32766) (cond b (sat16Of (roundShiftOf z 15)) (pos 0)) ≡ true
+    go : (b : Bool) → ltZ (cond b (sat16Of (roundShiftOf z 15)) (pos 0)) (negsuc 32766) ≡ false
     go true =
         let m = sat-mono (roundShiftOf least 15) (roundShiftOf z 15) (round-mono least z 15 (product-above x (cosQ15 t (sineAt 2 (d .moving .phase))) f (cosQ15-fits t (sineAt 2 (d .moving .phase))))) in
-        le-yes-in (negsuc 32766) (sat16Of (roundShiftOf z 15)) (rw at-least at m)
+        lt-no-in (sat16Of (roundShiftOf z 15)) (negsuc 32766) (rw at-least at m)
     go false = refl
-
--- ---- the negative of such a number
-module _ {z Z : ℤ} (e : Z ≡ z) (f : SFits w16 z) (h : leZ (negsuc 32766) z ≡ true) where
-  pub minus-fits : SFits w16 (pos 0 -ℤ Z)
-  minus-fits = rw e (fit-in w16 (pos 0 -ℤ z) (omega (arith, sub-law' (pos 0) z, le-yes (negsuc 32766) z h)) (omega (arith, sub-law' (pos 0) z, fit-out f)))
-
-  pub minus-is : toZ w16 (ofZ w16 (pos 0 -ℤ Z)) ≡ negℤ z
-  minus-is = toZ-ofZ minus-fits ∙ +ℤ-idl (negℤ Z) ∙ ap negℤ e
-
--- ---- the larger of a magnitude and a difference, by the outcome of the second test
-module _ (m y : ℤ) {a n : ℤ} (ea : a ≡ cond (ltZ m y) y m) (en : n ≡ negℤ y) where
-  pub negative-larger : ltZ a n ≡ true → n ≡ largerOf q15 m y
-  negative-larger h = let u : ltZ (cond (ltZ m y) y m) (negℤ y) ≡ true = rw (ea, en) at h in en ∙ rw u
-
-  pub other-larger : ltZ a n ≡ false → a ≡ largerOf q15 m y
-  other-larger h = let u : ltZ (cond (ltZ m y) y m) (negℤ y) ≡ false = rw (ea, en) at h in ea ∙ rw u
-
--- what is above a unsigned magnitude is unsigned
-above-unsigned : (m y : ℤ) → unsignedQ15 m ≡ true → ltZ m y ≡ true → unsignedQ15 y ≡ true
-above-unsigned (pos m) (pos y) h e = le-leb 0 y (omega arith)
-above-unsigned (pos m) (negsuc y) h e = absurd (false≢true e)
-above-unsigned (negsuc m) y h e = absurd (false≢true h)
-
-pub unsigned-q15 : Unsigned q15 unsignedQ15
-unsigned-q15 = unsigned-by q15 unsignedQ15 refl refl above-unsigned

@@ -5,34 +5,23 @@ use answers::answer::is_accepted;
 use decoder_q15::fast::step_checked;
 use decoder_q15::parts::block_answer;
 use decoder_record::pll_q15::StereoPllQ15;
-use summary_counts::Counts;
-use summary_counts::columns_answer;
 use summary_counts::counted;
 use summary_counts::is_full;
+use summary_counts::summary_answer;
+use summary_record::in_q15::SummaryQ15;
+use summary_record::in_q15::is_fit;
+use summary_record::in_q15::larger;
 ghost use mathlib.Core.Path.{_≡_};
 ghost use mathlib.Core.Bool.{true};
-ghost use lib.IntN.{negsuc};
-ghost use lib.Signed.{leZ};
 ghost use lib.ListN.{length};
 ghost use Rattle.answers.specs.Answer.{says, entries};
 ghost use Rattle.decoder_q15.specs.Q15.{q15};
 ghost use Rattle.decoder_record.specs.Records.{pllQ15};
 ghost use Rattle.decoder_record.specs.Fit.{fitQ15};
 ghost use Rattle.summary_counts.specs.Counts.{endingOf};
-ghost use Rattle.summary.specs.Summary.{
-  freshSummary,
-  largerOf,
-  summaryFit,
-  summaryRun,
-  summaryOf,
-};
-ghost use Rattle.summary_q15.specs.Q15.{unsignedQ15, summaryQ15};
-
-// A summary's record. No difference is -32768, so that a magnitude is a sample.
-pub struct SummaryQ15 {
-    pub counts: Counts,
-    pub magnitude: i16,
-}
+ghost use Rattle.summary.specs.Summary.{summaryRun, summaryOf};
+ghost use Rattle.summary_record.specs.Record.{summaryFit};
+ghost use Rattle.summary_record.specs.Q15.{unsignedQ15, summaryQ15};
 
 // A decoder and a summary after a block, and the answer.
 pub struct SummarizedQ15 {
@@ -41,42 +30,12 @@ pub struct SummarizedQ15 {
     pub summary: SummaryQ15,
 }
 
-impl SummaryQ15 {
-    // A fresh summary.
-    pub fn new(period: u32) -> SummaryQ15
-        ensures { λ r. ⌜ summaryQ15 r ≡ freshSummary q15 period ⌝ }
-    {
-        SummaryQ15 {
-            counts: summary_counts::fresh(period),
-            magnitude: 0,
-        }
-    }
-}
-
-// Whether a call takes the summary.
-pub fn is_fit(s: SummaryQ15) -> bool
-    ensures { λ r. ⌜ r ≡ summaryFit q15 unsignedQ15 (summaryQ15 s) ⌝ }
-{
-    let empty = summary_counts::held(s.counts) == 0;
-    let rest = (s.magnitude >= 0) & !(empty & (s.magnitude > 0));
-    summary_counts::is_fit(s.counts) & rest
-}
-
 // The table with its length written out, so that the compiler leaves the test out of each lookup.
 fn full_table(table: &[i16]) -> &[i16]
     requires { ⌜ length (now table) ≡ entries ⌝ }
     ensures { λ r. ⌜ now r ≡ now (table .entry) ⌝ }
 {
     &table[..ENTRIES]
-}
-
-// The magnitude m with the difference y, which is not -32768: its negative would pass an i16.
-fn larger(m: i16, y: i16) -> i16
-    requires { ⌜ leZ (negsuc 32766) y ≡ true ⌝ }
-    ensures { λ r. ⌜ r ≡ largerOf q15 m y ⌝ }
-{
-    let a = if m < y { y } else { m };
-    if a < -y { -y } else { a }
 }
 
 // The samples in order.
@@ -185,14 +144,7 @@ pub fn block(
           magnitude = now (magnitudes .entry);
         }) ⌝ }
 {
-    if !is_fit(s) {
-        return SummarizedQ15 {
-            answer: Answer::Summary,
-            decoder: d,
-            summary: s,
-        };
-    }
-    let a = block_answer(
+    let own = block_answer(
         decoder_record::pll_q15::is_fit(d),
         table.len(),
         mpx.len(),
@@ -200,9 +152,11 @@ pub fn block(
         sum.len(),
         difference.len(),
     );
-    let answer = columns_answer(
-        a,
-        summary_counts::ending(s.counts, mpx.len()),
+    let answer = summary_answer(
+        is_fit(s),
+        s.counts,
+        own,
+        mpx.len(),
         stereos.len(),
         monos.len(),
         changes.len(),

@@ -14,9 +14,9 @@ use Rattle.decoder_record.specs.Records.{pllF32}
 use Rattle.decoder.specs.F32.{f32}
 use Rattle.decoder.proofs.Loops.{any-default}
 use Rattle.summary_counts.specs.Counts.{endingOf}
-use Rattle.summary.specs.F32.{unsignedF32, summaryF32}
-use Rattle.summary.proofs.Fits.{fitted}
-use Rattle.summary.proofs.Sign.{unsigned-f32}
+use Rattle.summary_record.specs.F32.{unsignedF32, summaryF32}
+use Rattle.summary_record.proofs.Fits.{fitted}
+use Rattle.summary_record.proofs.Sign.{unsigned-f32}
 use Rattle.summary.proofs.Noting.{Noting, noting-start, noting-on, noting-full, noting-end, has-place}
 use Rattle.summary.proofs.run.Statement.{statement}
 use Rattle.summary.proofs.run.Tie as tie

@@ -39,7 +39,7 @@ returns c =
     let mono = c .before .wrapping-add-u322 .ensures ∙ ap (λ (n : ℕ). (a .c .mono + n) % 2 ^ 32) (m-is (k .before)) in
     let changes = c .wrapping-add-u323 .ensures ∙ ap (λ (n : ℕ). (a .c .changes + n) % 2 ^ 32) (change-is j) in
     let e : record { period = a .c .period; stereo = c .before .before .wrapping-add-u32 .result; mono = c .before .wrapping-add-u322 .result; changes = c .wrapping-add-u323 .result; before = a .stereo } ≡ wrapped (countedOf (a .c) (a .stereo)) =
-        rw (stereo, mono, changes) in
+    rw (stereo, mono, changes) in
     (e, λ h. e ∙ unwrapped (a .c) (a .stereo) (counts-out (a .c) h) (k .struct-known .given .0 .fits))
 
 pub counted-spec : {M : Type 1} → statement M

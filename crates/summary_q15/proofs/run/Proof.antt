@@ -2,9 +2,10 @@ use borrow.Author.Needs.{needs}
 use Prim.Native.Nat.{_-_, _*_, _^_, _<_}
 use mathlib.Core.Path.{_≡_, sym, ap, _∙_}
 use mathlib.Core.Logic.{⊎-elim}
-use mathlib.Core.Bool.{true}
+use mathlib.Core.Bool.{true, false}
 use native.Mathlib.Omega.{arith}
-use lib.IntN.{ℤ, pos}
+use lib.IntN.{ℤ, pos, negsuc}
+use lib.Signed.{ltZ}
 use lib.ListN.{length, getD}
 use mir.Syntax.{w16, w64}
 use mir.Val.{Fits, SFits, toZ, ofZ}
@@ -16,11 +17,12 @@ use Rattle.decoder.specs.Machine.{Stepped, stepOf}
 use Rattle.decoder_q15.specs.Q15.{q15}
 use Rattle.decoder_q15.proofs.Kept.{fit-next}
 use Rattle.summary_counts.specs.Counts.{endingOf}
-use Rattle.summary.specs.Summary.{Summary, largerOf}
-use Rattle.summary.proofs.Fits.{fitted}
+use Rattle.summary_record.specs.Record.{Summary, largerOf}
+use Rattle.summary_record.proofs.Fits.{fitted}
 use Rattle.summary.proofs.Noting.{Noting, noting-start, noting-on, noting-full, noting-end, has-place}
-use Rattle.summary_q15.specs.Q15.{unsignedQ15, summaryQ15}
-use Rattle.summary_q15.proofs.Difference.{difference-above, unsigned-q15}
+use Rattle.summary_record.specs.Q15.{unsignedQ15, summaryQ15}
+use Rattle.summary_record.proofs.Negative.{unsigned-q15}
+use Rattle.summary_q15.proofs.Difference.{difference-above}
 use Rattle.summary_q15.proofs.run.Statement.{statement}
 use Rattle.summary_q15.proofs.run.Tie as tie
 
@@ -102,11 +104,11 @@ module _ (y : tie.After-struct-told2 Inv-loop μ-loop) where
   fit : fitQ15 (pllQ15 (o .step-checked .result .next)) ≡ true
   fit = rw (ap (λ (z : Stepped ℤ). z .pll) e) (fit-next (b .args .table .now) (pllQ15 (k .loop .st)) (toZ w16 (ofZ w16 X)) (toZ w16 (ofZ w16 P)) (rw ep (record { sfits = o .before .p .given })) (k .loop .inv .fit-state))
 
-larger-requires : tie.Need-larger-requires Inv-loop μ-loop
-larger-requires c κs =
-    let y = c .before .before in
-    rw (ap (λ (z : Stepped ℤ). z .difference) (e y))
-    (difference-above (b y .args .table .now) (pllQ15 (k y .loop .st)) (toZ w16 (ofZ w16 (X y))) (toZ w16 (ofZ w16 (P y))) (rw (ex y) (record { sfits = x y .x .given })))
+  -- its difference is above -32768
+  above : ltZ (toZ w16 (ofZ w16 D)) (negsuc 32766) ≡ false
+  above =
+      rw (ap (λ (z : Stepped ℤ). z .difference) e)
+      (difference-above (b .args .table .now) (pllQ15 (k .loop .st)) (toZ w16 (ofZ w16 X)) (toZ w16 (ofZ w16 P)) (rw ex (record { sfits = x .x .given })))
 
 -- .. and of its summary, up to whether its period ends
 module _ (c : tie.After-is-full Inv-loop μ-loop) where
@@ -117,7 +119,7 @@ module _ (c : tie.After-is-full Inv-loop μ-loop) where
   y = l .before .before .before
 
   larger-is : toZ w16 (ofZ w16 (l .larger .result)) ≡ largerOf q15 (toZ w16 (k y .loop .magnitude)) (toZ w16 (ofZ w16 (D y)))
-  larger-is = back w16 (l .larger .result) (l .larger .ok) ∙ l .larger .ensures
+  larger-is = back w16 (l .larger .result) (l .larger .ok) ∙ l .larger .ensures ∙ rw (above y)
 
   -- a period that ends has a place
   room : c .is-full .result ≡ true → k y .loop .k < endingOf (b y .args .s .counts) (length (b y .args .mpx .now))
@@ -202,7 +204,7 @@ run-spec =
     (λ c. omega (arith, h c, of-mpx (b c)))
     (λ c. omega (arith, h c, k c .loop .inv .going .differences .size))
     (λ c κs. tt)
-    larger-requires
+    (λ c κs. tt)
     (λ c κs. tt)
     (λ c. scaled (c .before) (c .if1 .taken))
     slice-write-stereos

@@ -1,0 +1,4 @@
+pub mod Fits
+pub mod Sign
+pub mod Negative
+pub mod Free

@@ -1,0 +1,3 @@
+pub mod Record
+pub mod F32
+pub mod Q15
