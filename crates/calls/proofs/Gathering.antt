@@ -15,9 +15,9 @@ use Rattle.summary_record.specs.Record.{Summary}
 use Rattle.summary.specs.Summary.{Outcome, outcomeOf, Figures, figuresOf, Columns, columnsOf, Running, Summarized, noted, nextOf, through, begun, summaryRun, summaryOf}
 use Rattle.summary_record.proofs.Fits.{Unsigned, Fitted}
 use Rattle.summary.proofs.Fits.{fit-next}
-use Rattle.calls.specs.Events.{Event, sample, switch, clear, after}
+use Rattle.calls.specs.Events.{Event, sample, switch, clear, eventOf, after}
 use Rattle.calls.specs.Calls.{Core, Brought, Call, block, merged, summary, enable, disable, reset, callOf, samplesOf, eventsOf, machine, events}
-use Rattle.calls.specs.Summaries.{summarizes, summaryIn, Gathered, none, outputsOf, followed, Brings, gathered, lastSummary, HandedOn, NoOther, NoOthers, stepsOf, rawOf}
+use Rattle.calls.specs.Summaries.{summarizes, summaryIn, Gathered, none, outputsOf, followed, Brings, gathered, lastSummary, HandedOn, Marked, marked, stepsOf, rawOf}
 use Rattle.calls.proofs.Events.{after-samples, call-after}
 use Rattle.calls.proofs.Steps.{saysSummary}
 use Rattle.calls.proofs.Periods.{through-append, put, put-through}
@@ -225,19 +225,39 @@ module _ {A : Type 0} (C : Core A) where
       own true zs = refl
       own false zs = refl
 
-  -- where no other block is called, they are the steps of all events
-  own-events : (m : Pll A) (c : Call A) → NoOther c → ownSteps m c ≡ stepsOf F m (eventsOf C m c)
-  own-events m (block b) h = absurd h
-  own-events m (merged b) h = absurd h
-  own-events m (summary s b c) h = refl
-  own-events m enable h = refl
-  own-events m disable h = refl
-  own-events m reset h = refl
+  -- what the marked samples leave
+  abbrev pub markedSteps : Pll A → List (Marked A) → List (Stepped A)
+  markedSteps m [] = []
+  markedSteps m (x ∷ xs) = cond (x .summarized) (stepsOf F m (x .event ∷ [])) [] ++ markedSteps (eventOf F m (x .event)) xs
 
-  pub all-events : (m : Pll A) (cs : List (Call A)) → NoOthers cs → allSteps m cs ≡ stepsOf F m (events C m cs)
-  all-events m [] h = refl
-  all-events m (c ∷ cs) h =
+  -- .. of events that are marked alike, and others after them
+  marked-alike : (b : Bool) (m : Pll A) (es : List (Event A)) (xs : List (Marked A))
+      → markedSteps m (map (λ e. record { summarized = b; event = e }) es ++ xs) ≡ cond b (stepsOf F m es) [] ++ markedSteps (after F m es) xs
+  marked-alike true m [] xs = refl
+  marked-alike true m (sample t x p ∷ es) xs = let z = stepOf F t m x p in ap (λ (zs : List (Stepped A)). z ∷ zs) (marked-alike true (z .pll) es xs)
+  marked-alike true m (switch b ∷ es) xs = marked-alike true (enabledOf b m) es xs
+  marked-alike true m (clear ∷ es) xs = marked-alike true (resetOf (F .nought) m) es xs
+  marked-alike false m [] xs = refl
+  marked-alike false m (e ∷ es) xs = marked-alike false (eventOf F m e) es xs
+
+  -- the steps of summary calls are those of the events that are marked
+  pub all-marked : (m : Pll A) (cs : List (Call A)) → allSteps m cs ≡ markedSteps m (marked C m cs)
+  all-marked m [] = refl
+  all-marked m (c ∷ cs) =
       let d = callOf C m c .decoder in
-      (λ j. own-events m c (h .0) j ++ all-events d cs (h .1) j)
-      ∙ ap (λ (d : Pll A). stepsOf F m (eventsOf C m c) ++ stepsOf F d (events C (callOf C m c .decoder) cs)) (call-after C m c)
-      ∙ sym (steps-append F m (eventsOf C m c) (events C d cs))
+      (λ j. ownSteps m c ++ all-marked d cs j)
+      ∙ ap (λ (d : Pll A). ownSteps m c ++ markedSteps d (marked C (callOf C m c .decoder) cs)) (call-after C m c)
+      ∙ sym (marked-alike (summarizes c) m (eventsOf C m c) (marked C d cs))
+
+  -- the events are all marked, one way or the other
+  pub all-events : (m : Pll A) (cs : List (Call A)) → events C m cs ≡ map (λ x. x .event) (marked C m cs)
+  all-events m [] = refl
+  all-events m (c ∷ cs) = own (summarizes c) (eventsOf C m c) (marked C d cs) (all-events d cs)
+    where
+      d : Pll A
+      d = callOf C m c .decoder
+
+      own : (b : Bool) (es : List (Event A)) {fs : List (Event A)} (xs : List (Marked A)) → fs ≡ map (λ x. x .event) xs
+          → es ++ fs ≡ map (λ x. x .event) (map (λ e. record { summarized = b; event = e }) es ++ xs)
+      own b [] xs h = h
+      own b (e ∷ es) xs h = ap (λ (fs : List (Event A)). e ∷ fs) (own b es xs h)

@@ -15,12 +15,12 @@ use Rattle.calls.specs.Events.{after}
 use Rattle.calls.specs.Calls.{Core, Brought, Call, Left, events}
 use Rattle.calls.specs.Demand.{Decoder, Format, seen, Runs, lastRecord, plainDecoder, fastDecoder}
 use Rattle.calls.specs.Periods.{finishedOf, unfinishedOf}
-use Rattle.calls.specs.Summaries.{summarizes, columnsIn, summaryIn, Gathered, none, outputsOf, followed, gathered, lastSummary, HandedOn, NoOthers, stepsOf, rawOf, Together, OneCall, Claims, SummaryClaims}
+use Rattle.calls.specs.Summaries.{summarizes, columnsIn, summaryIn, Gathered, none, outputsOf, followed, gathered, lastSummary, HandedOn, Marked, marked, rawOf, Together, OneCall, Claims, SummaryClaims}
 use Rattle.calls.proofs.Events.{final-after}
 use Rattle.calls.proofs.Steps.{block-ran, ownSummary, summary-said, Ran, summary-ran, outcomesIn, blockedIn}
 use Rattle.calls.proofs.Agreement.{SetsRight, BlocksRight, ofBlock, ofSummary, agree, last-agrees, Shown, plain-blocks, fast-blocks}
 use Rattle.calls.proofs.Periods.{from-fresh}
-use Rattle.calls.proofs.Gathering.{Whole, going-through, fit-through, gathering, ending, allSteps, list-adds, raw-is, all-events}
+use Rattle.calls.proofs.Gathering.{Whole, going-through, fit-through, gathering, ending, allSteps, list-adds, raw-is, markedSteps, all-marked, all-events}
 
 module _ {A D R N S T : Type 0} (K : Format A D R N S T) where
   abbrev C : Core A
@@ -107,31 +107,32 @@ module _ {A D R N S T : Type 0} (K : Format A D R N S T) where
           g .1 ∙ ap (λ (r : Running A). r .summary) all,
         )
 
-    -- all three are told by the events and the state before
-    told : (d : D) (s : Summary A) (cs : List (Call A)) (ls : List (Left A D)) → Runs K W d cs ls → NoOthers cs → HandedOn s cs ls
+    -- all three are told by the marked events and the state before
+    told : (d : D) (s : Summary A) (cs : List (Call A)) (ls : List (Left A D)) → Runs K W d cs ls → HandedOn s cs ls
         → let m = K .state d in
-        let es = events C m cs in
-        (gathered cs ls ≡ gathering F s (stepsOf F m es))
-        × (lastSummary s ls ≡ ending F s (stepsOf F m es))
-        × (K .state (lastRecord K d ls) ≡ after F m es)
-    told d s cs ls run only h =
+        let xs = marked C m cs in
+        (gathered cs ls ≡ gathering F s (markedSteps C m xs))
+        × (lastSummary s ls ≡ ending F s (markedSteps C m xs))
+        × (K .state (lastRecord K d ls) ≡ after F m (map (λ x. x .event) xs))
+    told d s cs ls run h =
         let g = gathers d s cs ls run h in
-        let e = all-events C (K .state d) cs only in (
+        let m = K .state d in
+        let e = all-marked C m cs in (
           g .0 ∙ ap (gathering F s) e,
           g .1 ∙ ap (ending F s) e,
-          last-agrees K W right sets d cs ls run ∙ final-after C (K .state d) cs,
+          last-agrees K W right sets d cs ls run ∙ final-after C m cs ∙ ap (after F m) (all-events C m cs),
         )
 
     claims : Claims K W
     claims = record {
       one-call = one-call;
       history = history;
-      cuts = λ d e s cs ds ls ks same run only h run' only' h' events-same.
-          let x = told d s cs ls run only h in
-          let y = told e s ds ks run' only' h' in (
-            (x .0 ∙ (λ j. gathering F s (stepsOf F (same j) (events-same j)))) ∙ sym (y .0),
-            (x .1 ∙ (λ j. ending F s (stepsOf F (same j) (events-same j)))) ∙ sym (y .1),
-            (x .2 ∙ (λ j. after F (same j) (events-same j))) ∙ sym (y .2),
+      cuts = λ d e s cs ds ls ks same run h run' h' marks-same.
+          let x = told d s cs ls run h in
+          let y = told e s ds ks run' h' in (
+            (x .0 ∙ (λ j. gathering F s (markedSteps C (same j) (marks-same j)))) ∙ sym (y .0),
+            (x .1 ∙ (λ j. ending F s (markedSteps C (same j) (marks-same j)))) ∙ sym (y .1),
+            (x .2 ∙ (λ j. after F (same j) (map (λ (x : Marked A). x .event) (marks-same j)))) ∙ sym (y .2),
           );
     }
 

@@ -10,7 +10,7 @@ use Rattle.decoder.specs.Machine.{Arithmetic, Stepped, stepOf}
 use Rattle.summary_record.specs.Record.{Summary, freshSummary, summaryFit}
 use Rattle.summary.specs.Summary.{Columns, columnsOf, Outcome, outcomeOf}
 use Rattle.calls.specs.Events.{Event, sample, switch, clear}
-use Rattle.calls.specs.Calls.{Core, Brought, Call, block, merged, summary, enable, disable, reset, Output, signal, summaries, Left, leaving, callOf, eventsOf, events}
+use Rattle.calls.specs.Calls.{Core, Brought, Call, block, merged, summary, enable, disable, reset, Output, signal, summaries, Left, leaving, callOf, eventsOf}
 use Rattle.calls.specs.Periods.{finishedOf, unfinishedOf}
 use Rattle.calls.specs.Demand.{Format, Decoder, seen, Runs, lastRecord, plainDecoder, fastDecoder}
 
@@ -103,19 +103,6 @@ module _ {A X : Type 0} where
   HandedOn s (c ∷ cs) [] = ⊥
   HandedOn s (c ∷ cs) (l ∷ ls) = Brings s c × HandedOn (summaryIn s (l .outputs)) cs ls
 
--- no block but those with summaries
-abbrev pub NoOther : {A : Type 0} → Call A → Type 0
-NoOther (block b) = ⊥
-NoOther (merged b) = ⊥
-NoOther (summary s b c) = Unit {0}
-NoOther enable = Unit {0}
-NoOther disable = Unit {0}
-NoOther reset = Unit {0}
-
-abbrev pub NoOthers : {A : Type 0} → List (Call A) → Type 0
-NoOthers [] = Unit {0}
-NoOthers (c ∷ cs) = NoOther c × NoOthers cs
-
 -- ---- the raw history
 -- what each sample of a list of events leaves
 module _ {A : Type 0} (F : Arithmetic A) where
@@ -128,8 +115,18 @@ module _ {A : Type 0} (F : Arithmetic A) where
   abbrev pub outcomesOf : Pll A → List (Event A) → List (Outcome A)
   outcomesOf d es = map outcomeOf (stepsOf d es)
 
--- decision and difference after each sample of the accepted summary calls
+-- an event, and whether a call with a summary made it
+pub record Marked (A : Type 0) : Type 0 where
+  pub summarized : Bool
+  pub event : Event A
+
+-- the events of a list of calls, marked; decision and difference after each sample of the accepted summary calls
 module _ {A : Type 0} (C : Core A) where
+  abbrev pub marked : Pll A → List (Call A) → List (Marked A)
+  marked d [] = []
+  marked d (c ∷ cs) =
+      map (λ e. record { summarized = summarizes c; event = e }) (eventsOf C d c) ++ marked (callOf C d c .decoder) cs
+
   abbrev pub rawOf : Pll A → List (Call A) → List (Outcome A)
   rawOf d [] = []
   rawOf d (c ∷ cs) =
@@ -169,11 +166,12 @@ module _ {A D R N S T : Type 0} (K : Format A D R N S T) where
         → let raw = rawOf C (K .state d) cs in
         (gathered cs ls .columns ≡ columnsOf (finishedOf F period raw))
         × (lastSummary (freshSummary F period) ls ≡ unfinishedOf F period raw)
-    -- two lists that make the same events from the same start, however the samples are cut into blocks
+    -- two lists that make the same events from the same start, the same of them in summary calls, however the
+    -- samples are cut into calls
     pub cuts : (d e : D) (s : Summary A) (cs ds : List (Call A)) (ls ks : List (Left A D)) → K .state d ≡ K .state e
-        → Runs K W d cs ls → NoOthers cs → HandedOn s cs ls
-        → Runs K W e ds ks → NoOthers ds → HandedOn s ds ks
-        → events C (K .state d) cs ≡ events C (K .state e) ds
+        → Runs K W d cs ls → HandedOn s cs ls
+        → Runs K W e ds ks → HandedOn s ds ks
+        → marked C (K .state d) cs ≡ marked C (K .state e) ds
         → (gathered cs ls ≡ gathered ds ks)
         × (lastSummary s ls ≡ lastSummary s ks)
         × (K .state (lastRecord K d ls) ≡ K .state (lastRecord K e ks))
