@@ -120,13 +120,14 @@ pub record Marked (A : Type 0) : Type 0 where
   pub summarized : Bool
   pub event : Event A
 
--- the events of a list of calls, marked; decision and difference after each sample of the accepted summary calls
 module _ {A : Type 0} (C : Core A) where
+  -- the events of a list of calls, marked
   abbrev pub marked : Pll A → List (Call A) → List (Marked A)
   marked d [] = []
   marked d (c ∷ cs) =
       map (λ e. record { summarized = summarizes c; event = e }) (eventsOf C d c) ++ marked (callOf C d c .decoder) cs
 
+  -- decision and difference after each sample of the accepted summary calls
   abbrev pub rawOf : Pll A → List (Call A) → List (Outcome A)
   rawOf d [] = []
   rawOf d (c ∷ cs) =

@@ -529,9 +529,10 @@ fn found<F: Compared>(
 
 // ---- other cuts
 
-/// Samples under one table, with a set call before them or none.
+/// Samples under one table, in summary calls or in other blocks, with a set call before them or none.
 struct Stretch<S> {
     set: Option<Call<S>>,
+    summarized: bool,
     block: Block<S>,
 }
 
@@ -555,6 +556,45 @@ fn cut_at(r: &mut Inputs, cut: Cut, left: usize) -> usize {
     }
 }
 
+/// A summary call, whose outputs are put after those in `all`.
+fn summarized<F: Compared>(
+    record: &mut Record<F>,
+    summary: &mut Summary<F::Sample>,
+    part: &Block<F::Sample>,
+    all: &mut Left,
+) -> Said {
+    let n = part.mpx.len();
+    let ends = model::places(summary, n) as usize;
+    let nought = |n| vec![F::nought(); n];
+    let (mut sum, mut difference) = (nought(n), nought(n));
+    let (mut magnitude, mut counts) = (nought(ends), [(); 3].map(|()| vec![0; ends]));
+    let [stereo, mono, changes] = &mut counts;
+    let columns = Columns {
+        stereo,
+        mono,
+        changes,
+        magnitude: &mut magnitude,
+    };
+    let outputs = [&mut sum[..], &mut difference[..]];
+    let said = record.summary(summary, part, outputs, columns);
+    for (k, samples) in [(0, sum), (1, difference), (5, magnitude)] {
+        all.outputs[k].extend(samples.iter().map(|x| F::word_sample(*x)));
+    }
+    for (k, counts) in counts.iter().enumerate() {
+        all.outputs[2 + k].extend(counts.iter().map(|n| *n as u64));
+    }
+    said
+}
+
+/// A block or a merged block, plain or fast, which moves the decoder and not the summary.
+fn passed<F: Compared>(r: &mut Inputs, record: &mut Record<F>, mut part: Block<F::Sample>) -> Said {
+    let n = part.mpx.len();
+    part.outputs = [(); 2].map(|()| vec![F::nought(); n]);
+    let sort = one(r, &[Call::Block, Call::Merged]);
+    let way = one(r, &[Way::Plain, Way::Fast]);
+    record.call(way, &sort(part)).said
+}
+
 /// The stretches, each cut into blocks, by our library alone.
 fn ran<F: Compared>(
     r: &mut Inputs,
@@ -572,34 +612,19 @@ fn ran<F: Compared>(
         // a stretch of no samples is one block, too
         loop {
             let to = from + cut_at(r, cut, n - from);
-            let ends = model::places(&summary, to - from) as usize;
             let part = Block {
                 table: s.block.table.clone(),
                 mpx: s.block.mpx[from..to].to_vec(),
                 pilot: s.block.pilot[from..to].to_vec(),
                 outputs: Default::default(),
             };
-            let nought = |n| vec![F::nought(); n];
-            let (mut sum, mut difference) = (nought(to - from), nought(to - from));
-            let (mut magnitude, mut counts) = (nought(ends), [(); 3].map(|()| vec![0; ends]));
-            let [stereo, mono, changes] = &mut counts;
-            let columns = Columns {
-                stereo,
-                mono,
-                changes,
-                magnitude: &mut magnitude,
+            let said = match s.summarized {
+                true => summarized::<F>(&mut record, &mut summary, &part, &mut all),
+                false => passed::<F>(r, &mut record, part),
             };
-            let outputs = [&mut sum[..], &mut difference[..]];
-            let said = record.summary(&mut summary, &part, outputs, columns);
             if said != ACCEPTED {
                 all.said = said;
                 return all;
-            }
-            for (k, samples) in [(0, sum), (1, difference), (5, magnitude)] {
-                all.outputs[k].extend(samples.iter().map(|x| F::word_sample(*x)));
-            }
-            for (k, counts) in counts.iter().enumerate() {
-                all.outputs[2 + k].extend(counts.iter().map(|n| *n as u64));
             }
             from = to;
             if from == n {
@@ -627,6 +652,9 @@ fn worked_out<F: Compared>(
         }
         let (samples, next) = history::<F>(state, &s.block);
         state = next;
+        if !s.summarized {
+            continue;
+        }
         let mpx = s.block.mpx.iter().map(|x| F::word_sample(*x));
         all.outputs[0].extend(mpx);
         raw.extend(samples);
@@ -644,7 +672,10 @@ fn worked_out<F: Compared>(
         .map(|f| F::word_sample(f.magnitude))
         .collect();
     all.decoder = field_words::<F>(&F::fields(&state));
-    all.summary = summary_words::<F>(&model.record());
+    // a record that no call took is as it was handed in, its switch too
+    let taken = stretches.iter().any(|s| s.summarized);
+    let held = if taken { model.record() } else { summary };
+    all.summary = summary_words::<F>(&held);
     all
 }
 
@@ -664,6 +695,7 @@ fn stretches<F: Compared>(
                     2 => Some(Call::Reset),
                     _ => None,
                 },
+                summarized: r.below(4) > 0,
                 block: inputs::asked_of::<F>(r, f, tables, lengths).block,
             }
         })
