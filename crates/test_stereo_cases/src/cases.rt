@@ -10,7 +10,6 @@ use encoder_record::encode::StereoEncode;
 use encoder_record::rds::NewEncodeRds;
 use encoder_record::rds::SetEncodeRds;
 use encoder_record::rds::StereoEncodeRds;
-use libc::STDOUT_FILENO;
 use oscillator::nco::Increment;
 use oscillator::nco::Nco;
 use oscillator::nco::NewNco;
@@ -102,16 +101,6 @@ fn set(name: &[u8], to: f32) {
             refusal(n);
             level(e.rds);
         }
-    }
-    done();
-}
-
-fn verdict(name: &[u8], amplitude: f32) {
-    line(name);
-    if verdict::on_air(19000.0, amplitude) {
-        io::write_all(STDOUT_FILENO, b" yes");
-    } else {
-        io::write_all(STDOUT_FILENO, b" no");
     }
     done();
 }
@@ -244,16 +233,6 @@ fn sets() {
     set(b"set to NaN:", 0.0 / 0.0);
 }
 
-fn verdicts() {
-    verdict(b"on air below 0.08:", f32_of(0x3DA3_D709));
-    verdict(b"on air at 0.08:", 0.08);
-    verdict(b"on air above 0.08:", f32_of(0x3DA3_D70B));
-    verdict(b"on air below 0.1:", f32_of(0x3DCC_CCCC));
-    verdict(b"on air at 0.1:", 0.1);
-    verdict(b"on air above 0.1:", f32_of(0x3DCC_CCCE));
-    verdict(b"on air NaN:", 0.0 / 0.0);
-}
-
 pub(crate) fn run() {
     increments();
     oscillators();
@@ -263,5 +242,4 @@ pub(crate) fn run() {
     sets();
     encoder_calls();
     encoder_rds_calls();
-    verdicts();
 }

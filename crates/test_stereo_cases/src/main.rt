@@ -1,6 +1,5 @@
-// Runs document 01's other cases of oscillator, matrix, encoders and verdict, and one case for each
-// refusal of these calls. What each has to write stands in the file stdout; it was worked out from
-// the document.
+// Runs document 01's other cases of oscillator, matrix and encoders, and one case for each refusal of
+// these calls. What each has to write stands in the file stdout; it was worked out from the document.
 mod cases;
 mod lengths;
 mod write;

@@ -5,9 +5,7 @@ ghost use Rattle.verdict.specs.Verdict.{onAirOf};
 pub fn on_air(frequency: f64, amplitude: f32) -> bool
     ensures { λ r. ⌜ r ≡ onAirOf frequency amplitude ⌝ }
 {
-    if amplitude >= 0.08 {
-        amplitude <= 0.1
-    } else {
-        false
-    }
+    let good_amplitude = (amplitude >= 0.08) & (amplitude <= 0.1);
+    let good_frequency = (frequency >= 18998.0) & (frequency <= 19002.0);
+    good_amplitude & good_frequency
 }
