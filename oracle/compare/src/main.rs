@@ -12,8 +12,8 @@
 //!                           former (200000)
 //!     compare summary [N]   the summary beside the pairs: N sessions of each kind (100000)
 //!     compare every         every input of each function whose arguments have 32 bits in all
-//!     compare every-stereo  every f32 of the corrections and of the scan, every pair of the Q15
-//!                           matrix
+//!     compare every-stereo  every f32 of the corrections, of the scan and of the verdict, every
+//!                           pair of the Q15 matrix
 
 mod decoder;
 mod encoder;
@@ -25,6 +25,7 @@ mod scan;
 mod sessions;
 mod stereo;
 mod summary;
+mod verdict;
 
 use numbers_oracle::edges::edges;
 use numbers_oracle::random::Random;
@@ -168,7 +169,10 @@ fn main() {
         Some("summary") => summary(),
         Some("every") => helpers(compare_every),
         Some("every-stereo") => {
-            stereo::every_correction() & stereo::every_matrix_q15() & scan::every()
+            stereo::every_correction()
+                & stereo::every_matrix_q15()
+                & scan::every()
+                & verdict::every()
         }
         Some(_) => usage(),
     };

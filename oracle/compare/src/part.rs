@@ -24,6 +24,8 @@ pub struct Part {
     pub version_b: u64,
     // pilots of which the scan says that a sample is not finite
     pub not_finite: u64,
+    // verdicts that are yes
+    pub on_air: u64,
     // summaries that calls finished, changes between a call's samples, and calls that finished more
     // than one
     pub summaries: u64,
@@ -50,6 +52,7 @@ impl Part {
             stopped: 0,
             version_b: 0,
             not_finite: 0,
+            on_air: 0,
             summaries: 0,
             changes: 0,
             several: 0,
@@ -149,6 +152,9 @@ impl Part {
         }
         if self.not_finite > 0 {
             print!(", {} not finite", self.not_finite);
+        }
+        if self.on_air > 0 {
+            print!(", {} on air", self.on_air);
         }
         if self.version_b > 0 {
             print!(", {} accepted of version B", self.version_b);

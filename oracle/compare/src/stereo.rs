@@ -2,9 +2,7 @@
 
 use numbers_oracle::answers::{word_f32, word_i16};
 use pescrondilu_sys::decoder::matrix;
-use pescrondilu_sys::encoder::{
-    Nco, pescrondilu_nco_advance, pescrondilu_nco_increment_for, pescrondilu_on_air,
-};
+use pescrondilu_sys::encoder::{Nco, pescrondilu_nco_advance, pescrondilu_nco_increment_for};
 use pescrondilu_sys::numbers::{self, pescrondilu_correction_fast, pescrondilu_correction_plain};
 use stereo_oracle::answers::{self, Arguments, Block, Encoder, SIDES, TABLE};
 use stereo_oracle::inputs::{Inputs, Limits, corrections, limits, one};
@@ -12,6 +10,7 @@ use stereo_oracle::inputs::{Inputs, Limits, corrections, limits, one};
 use crate::encoder;
 use crate::part::Part;
 use crate::sessions;
+use crate::verdict;
 
 /// Lengths of the blocks.
 const LENGTHS: [usize; 7] = [0, 1, 2, 63, 64, 65, 4096];
@@ -226,35 +225,6 @@ fn setters() -> bool {
     pilot.report() & rds_pilot.report() & rds.report()
 }
 
-/// The document's rule, since the original has no verdict.
-fn verdict() -> bool {
-    let mut r = Inputs::new(8);
-    let mut part = Part::new("on_air");
-    let mut compare = |f: f64, a: f32| {
-        let expected = (0.08f32..=0.1f32).contains(&a) as u32;
-        part.same(expected, pescrondilu_on_air(f, a), || {
-            format!("{:08x}", a.to_bits())
-        });
-    };
-    for x in [0.08f32, 0.1] {
-        for y in [x.next_down(), x, x.next_up()] {
-            compare(19000.0, y);
-            compare(f64::NAN, y);
-            compare(19000.0, -y);
-        }
-    }
-    (0..=u32::MAX)
-        .step_by(97)
-        .for_each(|w| compare(19000.0, f32::from_bits(w)));
-    (0..1_000_000).for_each(|_| {
-        compare(
-            r.f64(),
-            f32::from_bits(0x3DA0_0000 + (r.u32() & 0x0040_0000 - 1)),
-        )
-    });
-    part.report()
-}
-
 /// Lengths for a number of slices: all equal, then each one damaged, then several.
 fn lengths<const N: usize>(r: &mut Inputs) -> Vec<[usize; N]> {
     let mut all = Vec::new();
@@ -395,7 +365,7 @@ pub fn compare(count: u64) -> bool {
         & oscillator()
         & construction()
         & setters()
-        & verdict()
+        & verdict::compare()
         & matrix_f32()
         & matrix_q15()
         & encoder("encode", false)
