@@ -369,8 +369,9 @@ pescrondilu_answer pescrondilu_matrix_q15(const int16_t *sum, size_t sum_n,
                                           int16_t *PESCRONDILU_RESTRICT right, size_t right_n);
 
 /*
- * The on-air verdict, for receiver and exciter: 1 where the pilot's amplitude is in 0.08f to 0.1f,
- * both included (ITU-R BS.450), else 0. The frequency has no part in it. Never refused.
+ * The on-air verdict, for receiver and exciter: 1 where the pilot's frequency is in 18998 to 19002 Hz
+ * and its amplitude in 0.08f to 0.1f, the ends included (ITU-R BS.450), else 0; so a NaN is 0. Never
+ * refused. An encoder's frequency is another matter: that may be 18000 to 20000 Hz.
  */
 uint32_t pescrondilu_on_air(double frequency, float amplitude);
 

@@ -117,8 +117,10 @@ static void make_multiplex(void)
     }
     uint32_t good = pescrondilu_on_air(PILOT_HZ, PILOT);
     uint32_t weak = pescrondilu_on_air(PILOT_HZ, 0.075f);
-    printf("on air: %u with the pilot at 0.09, %u at 0.075\n", good, weak);
+    uint32_t low = pescrondilu_on_air(18500, PILOT);
+    printf("on air: %u with the pilot at 0.09, %u at 0.075, %u at 18.5 kHz\n", good, weak, low);
     expect(good == 1 && weak == 0, "the verdict is yes at 0.09 and no at 0.075");
+    expect(low == 0, "the verdict is no at 18.5 kHz");
 }
 
 /* The lock coefficient for a level that settles with a time constant of 50 ms. */

@@ -4,9 +4,11 @@ use crate::args::Args;
 use crate::draft::same_file;
 use crate::fault::{Fault, Outcome};
 use crate::rds::{Groups, Rds};
+use crate::receiver::PILOT_HZ;
 use crate::say::{Progress, Stream, say};
 use crate::source::{self, Source};
 use crate::transmitter::{HIGHEST_RATE, Settings, Transmitter};
+use crate::verdict::pilot_words;
 use crate::wav::write::{Samples, Shape, Writer};
 
 /// What the command line asks for.
@@ -269,6 +271,7 @@ fn report(order: &Order, programme: &Programme, meter: &Meter, rds: Option<Strin
     );
     let mut entry = |name: &str, words: String| text += &format!("  {name:<11}{words}\n");
     entry("audio", format!("{} Hz", programme.rate));
+    entry("pilot", pilot_words(PILOT_HZ, 1, order.pilot.into()));
     if let Some(words) = rds {
         entry("rds", words);
     }

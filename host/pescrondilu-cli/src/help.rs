@@ -56,6 +56,11 @@ it was until then. The report counts them, and says when the last one stood in t
 integer core takes a NaN for 0, limits the capture to full deviation, and works at a quarter of it,
 so that left and right are not limited before their low-pass.
 
+The report says whether the pilot is within ITU-R BS.450: 18998 to 19002 Hz and an amplitude of 0.08
+to 0.1 of full deviation. The frequency is by the capture's own clock, and an error of that clock of
+100 parts in a million moves it by 1.9 Hz. The loop follows a pilot to 50 Hz from 19 kHz; a tone
+further away is named where the lamp never lit.
+
 Examples
   pescrondilu decode capture.wav -o audio.wav --log lamp.csv --plot lamp.svg
   pescrondilu decode capture.raw --raw f32 --rate 192000 --format q15
@@ -75,7 +80,7 @@ two channels, LEFT and RIGHT are WAV files of one; - is standard input. Audio pa
   --samples f32|s16   of the multiplex (f32)
   --rate HZ           of the multiplex, 120000 or more (192000)
   --main X            gain of sum and difference, 0 to 1 (0.9)
-  --pilot X           amplitude of the pilot, 0 to 0.2 (0.09)
+  --pilot X           amplitude of the pilot, 0 to 0.2 (0.09); BS.450 has 0.08 to 0.1
   --preemphasis 50|75|none   time constant in microseconds (50)
   --rds FILE          RDS groups, one a line: four words of four hexadecimal digits each, blanks
                       between them; # begins a comment. They are sent one after the other, and from

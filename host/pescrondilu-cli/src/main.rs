@@ -20,7 +20,9 @@ mod report;
 mod say;
 mod source;
 mod svg;
+mod tone;
 mod transmitter;
+mod verdict;
 mod wav;
 
 use std::process::ExitCode;

@@ -7,11 +7,14 @@ use pescrondilu::kernels::stereo::{StereoPllState, scan};
 use crate::audio::{AudioPath, Stereo};
 use crate::fault::{Fault, Outcome};
 use crate::figures::{Counter, Figures};
-use crate::filter::design::band_pass;
+use crate::filter::design::{band_pass, gain};
 use crate::filter::fir::Fir;
 use crate::format::{Format, fill, fill_f32, fill_multiplex};
+use crate::tone::Tone;
 
 pub const PILOT_HZ: f64 = 19_000.0;
+/// The core's loop follows a pilot this far to either side of 19 kHz.
+pub const LOOP_REACH_HZ: f64 = 50.0;
 /// The band-pass stops from this far to either side: programme begins 4 kHz away.
 const PILOT_REACH_HZ: f64 = 4_000.0;
 /// Below this rate what the loop makes around 76 kHz would fold into the audio.
@@ -59,6 +62,8 @@ pub struct Receiver<T: Format> {
     pll: StereoPllState<T>,
     counter: Option<Counter<T>>,
     band: Fir,
+    /// Until the lamp lights.
+    tone: Option<Tone>,
     /// The multiplex that waits for its pilot.
     waiting: Vec<f32>,
     audio: AudioPath,
@@ -104,6 +109,7 @@ impl<T: Format> Receiver<T> {
             pll,
             counter: counter.map_err(|why| why.to_string())?,
             band: Fir::new(&band_pass(PILOT_HZ, PILOT_REACH_HZ, rate), 1),
+            tone: Some(Tone::new(rate)),
             waiting: Vec::new(),
             audio: AudioPath::new(rate, settings.deemphasis),
             done: 0,
@@ -119,6 +125,14 @@ impl<T: Format> Receiver<T> {
     pub fn thresholds(&self) -> (f64, f64) {
         let coefficients = self.pll.coefficients();
         (coefficients.on, coefficients.off)
+    }
+
+    /// Frequency and amplitude of a tone near 19 kHz, where the lamp never lit.
+    pub fn tone(&self) -> Option<(f64, f64)> {
+        let (frequency, amplitude) = self.tone.as_ref()?.found()?;
+        let rate = self.settings.rate;
+        let taps = band_pass(PILOT_HZ, PILOT_REACH_HZ, rate);
+        Some((frequency, amplitude / gain(&taps, frequency, rate)))
     }
 
     /// The figures of the log's last period, which has not ended.
@@ -187,6 +201,12 @@ impl<T: Format> Receiver<T> {
                 None => self.pll.process_merged(m, p, l, r).map(|()| None),
             }
             .map_err(core_fault)?;
+            if self.pll.is_stereo() {
+                self.tone = None;
+            }
+            if let Some(tone) = &mut self.tone {
+                tone.hear(&pilot[from..to]);
+            }
             let last_bad_pilot = last_not_finite(&pilot[from..to]);
             see(Sight {
                 samples: to - from,

@@ -2,11 +2,10 @@
 
 use std::fmt::Write;
 
-use pescrondilu::kernels::stereo::on_air;
-
 use crate::history::{History, MOST_CHANGES};
 use crate::log::lamp;
-use crate::receiver::PILOT_HZ;
+use crate::receiver::{LOOP_REACH_HZ, PILOT_HZ};
+use crate::verdict::{USUAL_AMPLITUDE, number, pilot_words};
 
 pub struct Report<'a> {
     /// The capture in words: its name, length, rate and encoding.
@@ -19,12 +18,12 @@ pub struct Report<'a> {
     pub off: f64,
     /// Whether the core is Q15, which takes a NaN for 0.
     pub q15: bool,
+    /// Frequency and amplitude of a tone near 19 kHz, where the lamp never lit.
+    pub tone: Option<(f64, f64)>,
     /// What was odd about the file.
     pub complaint: Option<String>,
 }
 
-/// The pilot of BS.450, in the middle of its range, for which a gain is named.
-const USUAL_AMPLITUDE: f64 = 0.09;
 /// A level below this is that of no pilot.
 const NO_PILOT: f64 = 1e-4;
 
@@ -80,6 +79,14 @@ impl Report<'_> {
     fn never_lit(&self) -> String {
         let highest = self.history.totals().highest;
         let on = self.on;
+        if let Some((frequency, amplitude)) = self.out_of_reach() {
+            let words = pilot_words(frequency, 0, amplitude);
+            return format!(
+                "no pilot was found within {LOOP_REACH_HZ} Hz of 19 kHz, which is as far as the loop \
+                 reaches.\n{:13}A tone stands at {words}",
+                ""
+            );
+        }
         if highest < NO_PILOT {
             return format!("no pilot was found: the highest level is {highest:.4}");
         }
@@ -93,17 +100,23 @@ impl Report<'_> {
         )
     }
 
+    /// A tone that the loop cannot follow.
+    fn out_of_reach(&self) -> Option<(f64, f64)> {
+        let beside = |hz: f64| (hz - PILOT_HZ).abs();
+        self.tone
+            .filter(|(hz, amplitude)| beside(*hz) > LOOP_REACH_HZ && *amplitude > NO_PILOT)
+    }
+
     fn pilot(&self) -> String {
         let Some((level, offset)) = self.history.pilot() else {
             return "no period was stereo throughout; a shorter --period may have some".into();
         };
-        let (frequency, amplitude) = (PILOT_HZ + offset, 2.0 * level);
-        let verdict = match on_air(frequency, amplitude as f32) {
-            true => "within BS.450 (0.08 to 0.1)",
-            false => "outside BS.450 (0.08 to 0.1 of full deviation)",
-        };
-        let amplitude = number(amplitude);
-        format!("{frequency:.1} Hz, amplitude {amplitude}: {verdict}")
+        let words = pilot_words(PILOT_HZ + offset, 1, 2.0 * level);
+        // the integrator stops at its limit, and the pilot may be beyond it
+        match offset.abs() < 0.999 * LOOP_REACH_HZ {
+            true => words,
+            false => format!("{words};\n{:13}the loop reaches no further", ""),
+        }
     }
 
     fn level(&self) -> String {
@@ -140,15 +153,6 @@ impl Report<'_> {
     }
 }
 
-/// A level or an amplitude. A capture of floats may hold anything.
-fn number(value: f64) -> String {
-    if value.abs() < 1e4 {
-        format!("{value:.4}")
-    } else {
-        format!("{value:.3e}")
-    }
-}
-
 /// Three digits that count.
 fn digits(value: f64) -> String {
     let places = (2.0 - value.abs().log10().floor()).clamp(0.0, 12.0);
@@ -161,6 +165,15 @@ mod tests {
     use crate::receiver::Sight;
 
     fn report(levels: &[(f64, bool)], bad: usize, q15: bool) -> String {
+        with_tone(levels, bad, q15, None)
+    }
+
+    fn with_tone(
+        levels: &[(f64, bool)],
+        bad: usize,
+        q15: bool,
+        tone: Option<(f64, f64)>,
+    ) -> String {
         let mut history = History::new(100);
         for &(level, stereo) in levels {
             let (samples, bad_pilot) = (100, 3 * bad);
@@ -188,6 +201,7 @@ mod tests {
             on,
             off,
             q15,
+            tone,
             complaint,
         }
         .text()
@@ -201,7 +215,7 @@ mod tests {
             "audio      audio.wav",
             "stereo for 0.200 s of 0.300 s, 1 change\n",
             "0.200 s  stereo  level 0.0450",
-            "19001.5 Hz, amplitude 0.0900: within BS.450",
+            "19001.5 Hz, amplitude 0.0900: within BS.450 (18998 to 19002 Hz, 0.08 to 0.1)\n",
             "highest 0.0450, 0.0450 at the end",
             "file       torn",
         ] {
@@ -256,6 +270,22 @@ mod tests {
         assert!(text.contains("60 more changes"));
         assert_eq!(text.matches("  level 0.0200\n").count(), 40);
         assert!(text.contains("outside BS.450") || text.contains("no period was stereo"));
+    }
+
+    #[test]
+    fn a_tone_out_of_reach_is_no_weak_pilot() {
+        let text = with_tone(&[(0.0003, false)], 0, false, Some((18_500.2, 0.09)));
+        let words =
+            "A tone stands at 18500 Hz, amplitude 0.0900: outside BS.450 (18998 to 19002 Hz)\n";
+        assert!(text.contains("within 50 Hz of 19 kHz"), "{text}");
+        assert!(text.contains(words) && !text.contains("--gain"), "{text}");
+        for tone in [(19_049.0, 0.03), (18_500.0, 0.000_01)] {
+            let text = with_tone(&[(0.015, false)], 0, false, Some(tone));
+            assert!(
+                text.contains("--gain") && !text.contains("A tone"),
+                "{text}"
+            );
+        }
     }
 
     #[test]

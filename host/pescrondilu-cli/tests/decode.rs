@@ -155,10 +155,56 @@ fn the_pilot_s_frequency_is_found() {
     let (said, _) = decode(&folder, &mpx, &["--log", &log]);
     let text = said.text();
     assert!(text.contains("19003.0 Hz, amplitude 0.1199"), "{text}");
-    assert!(text.contains("outside BS.450"), "{text}");
+    let outside = "outside BS.450 (18998 to 19002 Hz, 0.08 to 0.1)";
+    assert!(text.contains(outside), "{text}");
     let offsets = column(&log, "offset_hz");
     let offset = offsets.last().unwrap();
     assert!((offset - 3.0).abs() < 0.1, "{offset}");
+}
+
+/// A pilot of a good amplitude at this frequency, as both cores report it.
+fn told_of_pilot(folder: &Folder, pilot_hz: f64) -> [String; 2] {
+    let mpx = Multiplex {
+        pilot_hz,
+        ..Multiplex::default()
+    }
+    .make();
+    ["f32", "q15"].map(|format| decode(folder, &mpx, &["--format", format]).0.text())
+}
+
+#[test]
+fn the_verdict_reads_the_frequency() {
+    let folder = Folder::new("verdict");
+    let outside = "outside BS.450 (18998 to 19002 Hz)\n";
+    for (pilot_hz, verdict) in [
+        (18_998.1, "within BS.450"),
+        (19_001.9, "within BS.450"),
+        (18_997.9, outside),
+        (19_002.1, outside),
+    ] {
+        let words = format!("{pilot_hz} Hz, amplitude 0.0900: {verdict}");
+        for text in told_of_pilot(&folder, pilot_hz) {
+            assert!(text.contains(&words), "{words} in\n{text}");
+        }
+    }
+}
+
+#[test]
+fn a_pilot_beyond_the_loop_s_reach_is_named() {
+    let folder = Folder::new("reach");
+    let outside = "outside BS.450 (18998 to 19002 Hz)";
+    let at = |hz: &str| format!("A tone stands at {hz} Hz, amplitude 0.0900: {outside}\n");
+    let limit = format!("{outside};\n{:13}the loop reaches no further\n", "");
+    for (pilot_hz, words) in [
+        (18_500.0, at("18500")),
+        (19_300.0, at("19300")),
+        (19_060.0, format!("19050.0 Hz, amplitude 0.0827: {limit}")),
+    ] {
+        for text in told_of_pilot(&folder, pilot_hz) {
+            assert!(text.contains(&words), "{words} in\n{text}");
+            assert!(!text.contains("--gain"), "{text}");
+        }
+    }
 }
 
 #[test]

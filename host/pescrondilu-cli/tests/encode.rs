@@ -52,6 +52,28 @@ fn encode_then_decode_separates_in_both_formats() {
 }
 
 #[test]
+fn the_pilot_is_told_with_its_verdict() {
+    let folder = Folder::new("pilot");
+    let (audio, mpx) = (folder.file("in.wav"), folder.file("mpx.wav"));
+    write_wav(&audio, 48_000, &[&tone(1_000.0, 48_000, 0.1, 0.5)]);
+    for (pilot, words) in [
+        (
+            "0.08",
+            "pilot      19000.0 Hz, amplitude 0.0800: within BS.450",
+        ),
+        (
+            "0.1",
+            "pilot      19000.0 Hz, amplitude 0.1000: within BS.450",
+        ),
+        ("0.101", "amplitude 0.1010: outside BS.450 (0.08 to 0.1 of"),
+        ("0", "amplitude 0.0000: outside BS.450 (0.08 to 0.1 of"),
+    ] {
+        let said = run(&["encode", &audio, "-o", &mpx, "--pilot", pilot]).done();
+        assert!(said.text().contains(words), "{}", said.text());
+    }
+}
+
+#[test]
 fn rds_leaves_the_separation_in_both_formats() {
     let folder = Folder::new("beside-rds");
     let groups = groups(&folder, GROUPS);

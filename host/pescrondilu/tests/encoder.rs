@@ -69,14 +69,42 @@ fn silent_rds() {
 }
 
 #[test]
-fn the_verdict_has_both_limits() {
-    for hz in [19_000.0, 0.0, f64::NAN] {
-        for amplitude in [0.08_f32, 0.09, 0.1] {
-            assert!(on_air(hz, amplitude));
-        }
-        for amplitude in [0.08_f32.next_down(), 0.1_f32.next_up(), f32::NAN, -0.09] {
-            assert!(!on_air(hz, amplitude));
-        }
+fn the_verdict_has_the_limits_of_both() {
+    let (lowest, highest) = (18_998.0_f64, 19_002.0_f64);
+    let good = [
+        lowest,
+        lowest.next_up(),
+        19_000.0,
+        highest.next_down(),
+        highest,
+    ];
+    let bad = [
+        lowest.next_down(),
+        highest.next_up(),
+        18_500.0,
+        -19_000.0,
+        f64::INFINITY,
+        f64::from_bits(0x7FF8_0000_0000_0001),
+        f64::from_bits(0xFFF0_0000_0000_0001),
+    ];
+    let strong = [0.08_f32, 0.09, 0.1];
+    let weak = [0.08_f32.next_down(), 0.1_f32.next_up(), f32::NAN, -0.09];
+    for hz in good {
+        assert!(strong.iter().all(|amplitude| on_air(hz, *amplitude)));
+        assert!(!weak.iter().any(|amplitude| on_air(hz, *amplitude)));
+    }
+    for hz in bad {
+        let all = strong.iter().chain(&weak);
+        assert!(!all.into_iter().any(|amplitude| on_air(hz, *amplitude)));
+    }
+}
+
+/// An exciter may be set up away from 19 kHz; what it sends is not fit for air.
+#[test]
+fn an_encoder_takes_a_frequency_that_may_not_go_on_air() {
+    for hz in [18_000.0, 18_500.0, 20_000.0] {
+        assert!(StereoEncodeState::with_rate(hz, 0.9, 0.09, 192_000.0).is_ok());
+        assert!(!on_air(hz, 0.09));
     }
 }
 

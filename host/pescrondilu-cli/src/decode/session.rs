@@ -174,6 +174,7 @@ impl<T: Format> Session<'_, T> {
             on,
             off,
             q15: self.order.core == Core::Q15,
+            tone: self.receiver.tone(),
             complaint: self.source.complaint(),
         }
         .text()

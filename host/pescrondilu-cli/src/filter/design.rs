@@ -97,7 +97,6 @@ pub fn band_pass(middle: f64, reach: f64, rate: f64) -> Vec<f64> {
 }
 
 /// The gain of symmetric taps at a frequency.
-#[cfg(test)]
 pub fn gain(taps: &[f64], frequency: f64, rate: f64) -> f64 {
     let turn = TAU * frequency / rate;
     let half = taps.len() / 2;

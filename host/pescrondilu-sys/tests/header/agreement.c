@@ -621,7 +621,7 @@ static void decoders(void)
 static void encoders(void)
 {
     EACH(pescrondilu_on_air, {
-        double frequency = any_double();
+        double frequency = near_double(19001.5);
         float amplitude = near_float(0.0625f);
         put32(pescrondilu_on_air(frequency, amplitude));
     })

@@ -836,7 +836,7 @@ impl Calls {
 
     fn encoders(&mut self) {
         self.each("pescrondilu_on_air", |t| {
-            let yes = pescrondilu_on_air(t.any_double(), t.near_float(0.0625));
+            let yes = pescrondilu_on_air(t.near_double(19001.5), t.near_float(0.0625));
             t.put32(yes);
         });
         self.each("pescrondilu_nco_increment_for", |t| {

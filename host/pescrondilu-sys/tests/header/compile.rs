@@ -81,7 +81,7 @@ fn receiver_runs() {
     let made = program(&cc, &source, &["-g"], "receiver");
     let said = run(&mut Command::new(&made));
     for line in [
-        "on air: 1 with the pilot at 0.09, 0 at 0.075",
+        "on air: 1 with the pilot at 0.09, 0 at 0.075, 0 at 18.5 kHz",
         "f32 after  10 ms: level 0.0082, lamp off",
         "f32 at the end:   level 0.0450, lamp on",
         "Q15 at the end:   level 0.0450, lamp on",

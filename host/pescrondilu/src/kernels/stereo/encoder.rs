@@ -448,14 +448,16 @@ fn rds_in_pieces<const N: usize>(
     Ok(())
 }
 
-/// Whether a pilot of this amplitude is on the air as ITU-R BS.450 has it: from 8 to 10 per cent,
-/// both included. The frequency does not matter to the verdict.
+/// Whether a pilot may go on air as ITU-R BS.450 has it: a frequency of 19 kHz within 2 Hz, and an
+/// amplitude from 8 to 10 per cent, the ends included. The encoders take pilots from 18 to 20 kHz
+/// whatever the verdict is.
 ///
 /// ```
 /// use pescrondilu::kernels::stereo::on_air;
 ///
-/// assert!(on_air(19_000.0, 0.08) && on_air(19_000.0, 0.1));
-/// assert!(!on_air(19_000.0, 0.11) && !on_air(19_000.0, f32::NAN));
+/// assert!(on_air(18_998.0, 0.08) && on_air(19_002.0, 0.1));
+/// assert!(!on_air(18_500.0, 0.09) && !on_air(19_000.0, 0.11));
+/// assert!(!on_air(f64::NAN, 0.09) && !on_air(19_000.0, f32::NAN));
 /// ```
 pub fn on_air(frequency_hz: f64, amplitude: f32) -> bool {
     sys::pescrondilu_on_air(frequency_hz, amplitude) != 0
