@@ -6,7 +6,8 @@ use lib.Ieee.{Float}
 use Rattle.answers.specs.Answer.{firstCause, refused}
 use Rattle.answers.proofs.Causes.{rule-below, first-below, refused-below}
 use Rattle.decoder_gains.specs.Gains.{gainsOf, causes}
-use Rattle.decoder_record.specs.Fresh.{freshF32, freshQ15, causesQ15, newF32Of, newQ15Of}
+use Rattle.decoder_record.specs.Fresh.{freshF32, newF32Of}
+use Rattle.decoder_record_q15.specs.Fresh.{freshQ15, causesQ15, newQ15Of}
 
 module _ (pilot natural level beta rate : Float) where
   pub f32-below : {n : ℕ} → refused n ≡ newF32Of pilot natural level beta rate → n < 100

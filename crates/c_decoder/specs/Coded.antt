@@ -7,7 +7,7 @@ use Rattle.answers.specs.Answer.{codeOf, Built, mapBuilt}
 use Rattle.answers.specs.Coded.{onAt, switchOf, Coded, codedNew}
 use Rattle.answers.specs.declared.answer.Code.{Code}
 use Rattle.decoder_record.specs.State.{Pll}
-use Rattle.decoder_record.specs.Fresh.{fraction}
+use Rattle.decoder_record_q15.specs.Fresh.{fraction}
 use Rattle.decoder.specs.Machine.{Blocked}
 use Rattle.matrix.specs.Matrix.{Matrixed}
 use Rattle.c_decoder.specs.declared.shared.Readout.{Readout}

@@ -4,13 +4,15 @@ use lib.IntN.{ℤ}
 use lib.Ieee.{Float}
 use Rattle.answers.specs.Answer.{mapBuilt}
 use Rattle.decoder_record.specs.State.{Pll}
-use Rattle.decoder_record.specs.Records.{pllF32, saysF32, pllQ15, saysQ15}
+use Rattle.decoder_record.specs.Records.{pllF32, saysF32}
+use Rattle.decoder_record_q15.specs.Records.{pllQ15, saysQ15}
 use Rattle.decoder_record.specs.declared.pll_f32.NewF32.{NewF32}
 use Rattle.decoder_record.specs.declared.pll_f32.NewF32.the-variants as f32-new
-use Rattle.decoder_record.specs.declared.pll_q15.NewQ15.{NewQ15}
-use Rattle.decoder_record.specs.declared.pll_q15.NewQ15.the-variants as q15-new
-use Rattle.decoder_record.proofs.Fit.{fitted}
-use Rattle.decoder_record.proofs.Fresh.{made-f32, made-q15, fit-new}
+use Rattle.decoder_record_q15.specs.declared.pll_q15.NewQ15.{NewQ15}
+use Rattle.decoder_record_q15.specs.declared.pll_q15.NewQ15.the-variants as q15-new
+use Rattle.decoder_record_q15.proofs.Fit.{fitted}
+use Rattle.decoder_record.proofs.Fresh.{made-f32}
+use Rattle.decoder_record_q15.proofs.Fresh.{made-q15, fit-new}
 use Rattle.decoder_q15.specs.Q15.{q15}
 use Rattle.summary_record.proofs.Sign.{unsigned-f32}
 use Rattle.summary_record.proofs.Negative.{unsigned-q15}
@@ -45,9 +47,9 @@ use Rattle.decoder_record.proofs.pll_f32.StereoPllF32.disable.Met as f32-disabl
 use Rattle.decoder_record.proofs.pll_f32.StereoPllF32.reset.Reads as f32-reset
 use Rattle.decoder_record.proofs.pll_f32.StereoPllF32.reset.Symbol as f32-reset-symbol
 use Rattle.decoder_record.proofs.pll_f32.StereoPllF32.reset.Met as f32-reset-met
-use Rattle.decoder_record.proofs.pll_q15.StereoPllQ15.new.Reads as q15-make
-use Rattle.decoder_record.proofs.pll_q15.StereoPllQ15.new.Symbol as q15-make-symbol
-use Rattle.decoder_record.proofs.pll_q15.StereoPllQ15.new.Met as q15-make-met
+use Rattle.decoder_record_q15.proofs.pll_q15.StereoPllQ15.new.Reads as q15-make
+use Rattle.decoder_record_q15.proofs.pll_q15.StereoPllQ15.new.Symbol as q15-make-symbol
+use Rattle.decoder_record_q15.proofs.pll_q15.StereoPllQ15.new.Met as q15-make-met
 use Rattle.decoder_q15.proofs.plain.block.Reads as q15-plain
 use Rattle.decoder_q15.proofs.plain.block.Symbol as q15-plain-symbol
 use Rattle.decoder_q15.proofs.plain.block.Met as q15-plain-met
@@ -60,15 +62,15 @@ use Rattle.merged.proofs.in_q15.block.Met as q15-merged-met
 use Rattle.summary_q15.proofs.block.Reads as q15-summary
 use Rattle.summary_q15.proofs.block.Symbol as q15-summary-symbol
 use Rattle.summary_q15.proofs.block.Met as q15-summary-met
-use Rattle.decoder_record.proofs.pll_q15.StereoPllQ15.enable.Reads as q15-enable
-use Rattle.decoder_record.proofs.pll_q15.StereoPllQ15.enable.Symbol as q15-enable-symbol
-use Rattle.decoder_record.proofs.pll_q15.StereoPllQ15.enable.Met as q15-enable-met
-use Rattle.decoder_record.proofs.pll_q15.StereoPllQ15.disable.Reads as q15-disable
-use Rattle.decoder_record.proofs.pll_q15.StereoPllQ15.disable.Symbol as q15-disable-symbol
-use Rattle.decoder_record.proofs.pll_q15.StereoPllQ15.disable.Met as q15-disable-met
-use Rattle.decoder_record.proofs.pll_q15.StereoPllQ15.reset.Reads as q15-reset
-use Rattle.decoder_record.proofs.pll_q15.StereoPllQ15.reset.Symbol as q15-reset-symbol
-use Rattle.decoder_record.proofs.pll_q15.StereoPllQ15.reset.Met as q15-reset-met
+use Rattle.decoder_record_q15.proofs.pll_q15.StereoPllQ15.enable.Reads as q15-enable
+use Rattle.decoder_record_q15.proofs.pll_q15.StereoPllQ15.enable.Symbol as q15-enable-symbol
+use Rattle.decoder_record_q15.proofs.pll_q15.StereoPllQ15.enable.Met as q15-enable-met
+use Rattle.decoder_record_q15.proofs.pll_q15.StereoPllQ15.disable.Reads as q15-disable
+use Rattle.decoder_record_q15.proofs.pll_q15.StereoPllQ15.disable.Symbol as q15-disable-symbol
+use Rattle.decoder_record_q15.proofs.pll_q15.StereoPllQ15.disable.Met as q15-disable-met
+use Rattle.decoder_record_q15.proofs.pll_q15.StereoPllQ15.reset.Reads as q15-reset
+use Rattle.decoder_record_q15.proofs.pll_q15.StereoPllQ15.reset.Symbol as q15-reset-symbol
+use Rattle.decoder_record_q15.proofs.pll_q15.StereoPllQ15.reset.Met as q15-reset-met
 
 -- construction's answer in the machine's terms is what its contract speaks of
 built-f32 : (r : NewF32) → mapBuilt pllF32 (builtF32 r) ≡ saysF32 r

@@ -9,15 +9,17 @@ use lib.Dec.{T}
 use lib.IntN.{ℤ, negℤ}
 use lib.Ieee.{Float, neg, le}
 use Rattle.answers.specs.Answer.{says, Built, made, refused}
-use Rattle.decoder_record.specs.Fit.{withinZ, fitQ15}
-use Rattle.decoder_record.specs.Fresh.{newF32Of, newQ15Of}
-use Rattle.decoder_record.specs.Records.{pllF32, pllQ15}
+use Rattle.decoder_record_q15.specs.Fit.{withinZ, fitQ15}
+use Rattle.decoder_record.specs.Fresh.{newF32Of}
+use Rattle.decoder_record_q15.specs.Fresh.{newQ15Of}
+use Rattle.decoder_record.specs.Records.{pllF32}
+use Rattle.decoder_record_q15.specs.Records.{pllQ15}
 use Rattle.decoder_record.specs.declared.pll_f32.StereoPllF32.{StereoPllF32}
 use Rattle.decoder_record.specs.declared.pll_f32.NewF32.{NewF32}
 use Rattle.decoder_record.specs.declared.pll_f32.NewF32.the-variants as f32-new
-use Rattle.decoder_record.specs.declared.pll_q15.StereoPllQ15.{StereoPllQ15}
-use Rattle.decoder_record.specs.declared.pll_q15.NewQ15.{NewQ15}
-use Rattle.decoder_record.specs.declared.pll_q15.NewQ15.the-variants as q15-new
+use Rattle.decoder_record_q15.specs.declared.pll_q15.StereoPllQ15.{StereoPllQ15}
+use Rattle.decoder_record_q15.specs.declared.pll_q15.NewQ15.{NewQ15}
+use Rattle.decoder_record_q15.specs.declared.pll_q15.NewQ15.the-variants as q15-new
 use Rattle.decoder.specs.declared.parts.ReplyF32.{ReplyF32}
 use Rattle.decoder_q15.specs.declared.parts.ReplyQ15.{ReplyQ15}
 use Rattle.summary_record.specs.F32.{summaryF32}
@@ -55,9 +57,9 @@ use Rattle.decoder_record.proofs.pll_f32.StereoPllF32.disable.Symbol as f32-dis
 use Rattle.decoder_record.proofs.pll_f32.StereoPllF32.reset.Reads as f32-reset
 use Rattle.decoder_record.proofs.pll_f32.StereoPllF32.reset.Kinds as f32-reset-kinds
 use Rattle.decoder_record.proofs.pll_f32.StereoPllF32.reset.Symbol as f32-reset-symbol
-use Rattle.decoder_record.proofs.pll_q15.StereoPllQ15.new.Reads as q15-make
-use Rattle.decoder_record.proofs.pll_q15.StereoPllQ15.new.Kinds as q15-make-kinds
-use Rattle.decoder_record.proofs.pll_q15.StereoPllQ15.new.Symbol as q15-make-symbol
+use Rattle.decoder_record_q15.proofs.pll_q15.StereoPllQ15.new.Reads as q15-make
+use Rattle.decoder_record_q15.proofs.pll_q15.StereoPllQ15.new.Kinds as q15-make-kinds
+use Rattle.decoder_record_q15.proofs.pll_q15.StereoPllQ15.new.Symbol as q15-make-symbol
 use Rattle.decoder_q15.proofs.plain.block.Reads as q15-plain
 use Rattle.decoder_q15.proofs.plain.block.Kinds as q15-plain-kinds
 use Rattle.decoder_q15.proofs.plain.block.Symbol as q15-plain-symbol
@@ -70,15 +72,15 @@ use Rattle.merged.proofs.in_q15.block.Symbol as q15-merged-symbol
 use Rattle.summary_q15.proofs.block.Reads as q15-summary
 use Rattle.summary_q15.proofs.block.Kinds as q15-summary-kinds
 use Rattle.summary_q15.proofs.block.Symbol as q15-summary-symbol
-use Rattle.decoder_record.proofs.pll_q15.StereoPllQ15.enable.Reads as q15-enable
-use Rattle.decoder_record.proofs.pll_q15.StereoPllQ15.enable.Kinds as q15-enable-kinds
-use Rattle.decoder_record.proofs.pll_q15.StereoPllQ15.enable.Symbol as q15-enable-symbol
-use Rattle.decoder_record.proofs.pll_q15.StereoPllQ15.disable.Reads as q15-disable
-use Rattle.decoder_record.proofs.pll_q15.StereoPllQ15.disable.Kinds as q15-disable-kinds
-use Rattle.decoder_record.proofs.pll_q15.StereoPllQ15.disable.Symbol as q15-disable-symbol
-use Rattle.decoder_record.proofs.pll_q15.StereoPllQ15.reset.Reads as q15-reset
-use Rattle.decoder_record.proofs.pll_q15.StereoPllQ15.reset.Kinds as q15-reset-kinds
-use Rattle.decoder_record.proofs.pll_q15.StereoPllQ15.reset.Symbol as q15-reset-symbol
+use Rattle.decoder_record_q15.proofs.pll_q15.StereoPllQ15.enable.Reads as q15-enable
+use Rattle.decoder_record_q15.proofs.pll_q15.StereoPllQ15.enable.Kinds as q15-enable-kinds
+use Rattle.decoder_record_q15.proofs.pll_q15.StereoPllQ15.enable.Symbol as q15-enable-symbol
+use Rattle.decoder_record_q15.proofs.pll_q15.StereoPllQ15.disable.Reads as q15-disable
+use Rattle.decoder_record_q15.proofs.pll_q15.StereoPllQ15.disable.Kinds as q15-disable-kinds
+use Rattle.decoder_record_q15.proofs.pll_q15.StereoPllQ15.disable.Symbol as q15-disable-symbol
+use Rattle.decoder_record_q15.proofs.pll_q15.StereoPllQ15.reset.Reads as q15-reset
+use Rattle.decoder_record_q15.proofs.pll_q15.StereoPllQ15.reset.Kinds as q15-reset-kinds
+use Rattle.decoder_record_q15.proofs.pll_q15.StereoPllQ15.reset.Symbol as q15-reset-symbol
 
 abbrev pub builtF32 : NewF32 → Built StereoPllF32
 builtF32 (f32-new.Made d) = made d

@@ -5,9 +5,9 @@ use mathlib.Core.List.{List, [], _∷_}
 use lib.IntN.{ℤ, pos}
 use Rattle.answers.proofs.Tests.{and-out}
 use Rattle.decoder_record.specs.State.{Pll, enabledOf, resetOf}
-use Rattle.decoder_record.specs.Fit.{withinZ, levelLow, levelHigh, fitQ15}
-use Rattle.decoder_record.proofs.Fit.{fit-in, fitted}
-use Rattle.decoder_record.proofs.Fresh.{origin-within}
+use Rattle.decoder_record_q15.specs.Fit.{withinZ, levelLow, levelHigh, fitQ15}
+use Rattle.decoder_record_q15.proofs.Fit.{fit-in, fitted}
+use Rattle.decoder_record_q15.proofs.Fresh.{origin-within}
 use Rattle.decoder.specs.Machine.{stepOf}
 use Rattle.decoder_q15.specs.Q15.{q15}
 use Rattle.decoder_q15.proofs.Kept.{fit-next}

@@ -11,11 +11,12 @@ use Rattle.floats.specs.Floats.{wholeOf, toFormat}
 use Rattle.numbers.specs.Scaled.{scaledOf}
 use Rattle.decoder_gains.specs.Gains.{Gains, gainsOf}
 use Rattle.decoder_record.specs.State.{Pll}
-use Rattle.decoder_record.specs.Fresh.{freshF32, newF32Of, freshQ15, newQ15Of}
+use Rattle.decoder_record.specs.Fresh.{freshF32, newF32Of}
+use Rattle.decoder_record_q15.specs.Fresh.{freshQ15, newQ15Of}
 use Rattle.decoder_record.specs.declared.pll_f32.StereoPllF32.{StereoPllF32}
 use Rattle.decoder_record.specs.declared.pll_f32.NewF32.the-variants as f32-new
-use Rattle.decoder_record.specs.declared.pll_q15.StereoPllQ15.{StereoPllQ15}
-use Rattle.decoder_record.specs.declared.pll_q15.NewQ15.the-variants as q15-new
+use Rattle.decoder_record_q15.specs.declared.pll_q15.StereoPllQ15.{StereoPllQ15}
+use Rattle.decoder_record_q15.specs.declared.pll_q15.NewQ15.the-variants as q15-new
 use Rattle.calls.specs.Calls.{Call, Left}
 use Rattle.calls.specs.Demand.{Arguments, Constructed, plainDecoder, fastDecoder, Runs}
 use Rattle.calls.proofs.Allowed.{Allows, plainly, fastly}

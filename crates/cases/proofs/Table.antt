@@ -10,7 +10,7 @@ use Rattle.phase.specs.Lookup.{betweenQ15, cosQ15, cosF32}
 use Rattle.phase.specs.Correction.{correctionOf}
 use Rattle.matrix.specs.Matrix.{leftQ15, rightQ15}
 use Rattle.encoder.specs.Multiplex.{multiplexOf}
-use Rattle.decoder_record.specs.Fit.{fitQ15}
+use Rattle.decoder_record_q15.specs.Fit.{fitQ15}
 use Rattle.decoder.specs.Machine.{advancedBy, stepOf, stateAt, runOf, blockOf}
 use Rattle.decoder_q15.specs.Q15.{levelQ15}
 use Rattle.merged.specs.Merged.{mergedOf}

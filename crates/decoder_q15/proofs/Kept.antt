@@ -16,9 +16,9 @@ use Rattle.numbers.proofs.Integers.{product-le}
 use Rattle.phase.specs.Lookup.{cosQ15, sineAt}
 use Rattle.phase.proofs.Between.{cosQ15-fits}
 use Rattle.decoder_record.specs.State.{Pll}
-use Rattle.decoder_record.specs.Fit.{withinZ, guardOf, fitQ15}
-use Rattle.decoder_record.proofs.Ranges.{within-out, within-in}
-use Rattle.decoder_record.proofs.Fit.{Fit, fit-in, fitted, room}
+use Rattle.decoder_record_q15.specs.Fit.{withinZ, guardOf, fitQ15}
+use Rattle.decoder_record_q15.proofs.Ranges.{within-out, within-in}
+use Rattle.decoder_record_q15.proofs.Fit.{Fit, fit-in, fitted, room}
 use Rattle.decoder.specs.Machine.{Stepped, limited, advancedBy, stepOf}
 use Rattle.decoder_q15.specs.Q15.{q15}
 use Rattle.decoder_q15.proofs.Level.{next-within}

@@ -13,10 +13,10 @@ use mir.Val.{SFits}
 use Rattle.rounding.proofs.Lin.{up, dn, add-law, sub-law', up-neg, dn-neg, abs-in, abs-out, abs-fits, mul-le, fit-in, shr-law}
 use Rattle.numbers.specs.Integers.{roundShiftOf}
 use Rattle.numbers.proofs.Integers.{round-is}
-use Rattle.decoder_record.specs.Fit.{withinZ, levelLow, levelHigh, levelFit}
+use Rattle.decoder_record_q15.specs.Fit.{withinZ, levelLow, levelHigh, levelFit}
 use Rattle.decoder_q15.specs.Q15.{levelQ15}
 use Rattle.answers.proofs.Tests.{and-out}
-use Rattle.decoder_record.proofs.Ranges.{within-out, within-in}
+use Rattle.decoder_record_q15.proofs.Ranges.{within-out, within-in}
 
 -- z keeps the level's bounds
 abbrev In : ℤ → Type 0

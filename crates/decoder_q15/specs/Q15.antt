@@ -7,7 +7,7 @@ use lib.IntN.{ℤ, pos, negℤ, _+ℤ_, _-ℤ_, _*ℤ_}
 use lib.Signed.{ltZ}
 use Rattle.numbers.specs.Integers.{sat16Of, roundShiftOf, modZ}
 use Rattle.phase.specs.Lookup.{cosQ15}
-use Rattle.decoder_record.specs.Fit.{fitQ15}
+use Rattle.decoder_record_q15.specs.Fit.{fitQ15}
 use Rattle.decoder_parts.specs.Rules.{reachesQ15}
 use Rattle.decoder_record.specs.State.{Pll}
 use Rattle.decoder.specs.Machine.{Arithmetic, Stepped, stepOf}

@@ -5,7 +5,7 @@ use answers::answer::ENTRIES;
 use decoder::lengths::block_lengths;
 use decoder_parts::advance::phase_after;
 use decoder_parts::in_q15::decided;
-use decoder_record::pll_q15::StereoPllQ15;
+use decoder_record_q15::pll_q15::StereoPllQ15;
 use numbers::fixed::low32;
 use numbers::fixed::round_shift;
 ghost use mathlib.Core.Path.{_≡_};
@@ -20,9 +20,9 @@ ghost use Rattle.numbers.specs.Integers.{roundShiftOf};
 ghost use Rattle.answers.specs.Answer.{entries, says, rule, firstCause};
 ghost use Rattle.decoder_parts.specs.Rules.{decideQ15};
 ghost use Rattle.decoder.specs.Machine.{limited, advancedBy, lengthCauses};
-ghost use Rattle.decoder_record.specs.Fit.{levelFit, guardOf, fitQ15};
+ghost use Rattle.decoder_record_q15.specs.Fit.{levelFit, guardOf, fitQ15};
 ghost use Rattle.decoder_q15.specs.Q15.{q15, levelQ15};
-ghost use Rattle.decoder_record.specs.Records.{pllQ15};
+ghost use Rattle.decoder_record_q15.specs.Records.{pllQ15};
 
 // A decoder after a sample, and the sample's difference output.
 pub struct StepQ15 {

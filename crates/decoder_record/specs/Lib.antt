@@ -1,4 +1,3 @@
 pub mod State
-pub mod Fit
 pub mod Fresh
 pub mod Records

@@ -1,32 +1,13 @@
--- The program's records as the machine's states, field by field, and the program's answers. Definitions only.
-use lib.IntN.{ℤ}
+-- The program's f32 record as the machine's state, field by field, and the program's answers. Definitions only.
 use lib.Ieee.{Float}
 use Rattle.answers.specs.Answer.{Built, made, refused}
 use Rattle.decoder_record.specs.State.{Pll}
 use Rattle.decoder_record.specs.declared.pll_f32.StereoPllF32.{StereoPllF32}
 use Rattle.decoder_record.specs.declared.pll_f32.NewF32.{NewF32}
 use Rattle.decoder_record.specs.declared.pll_f32.NewF32.the-variants as newF32
-use Rattle.decoder_record.specs.declared.pll_q15.StereoPllQ15.{StereoPllQ15}
-use Rattle.decoder_record.specs.declared.pll_q15.NewQ15.{NewQ15}
-use Rattle.decoder_record.specs.declared.pll_q15.NewQ15.the-variants as newQ15
 
 abbrev pub pllF32 : StereoPllF32 → Pll Float
 pllF32 d = record {
-  gains = record {
-    kp = d .kp;
-    ki = d .ki;
-    imax = d .imax;
-    beta = d .beta;
-    on = d .on;
-    off = d .off;
-    step0 = d .step0;
-  };
-  moving = record { phase = d .phase; integ = d .integ; level = d .level; stereo = d .stereo };
-  enabled = d .enabled;
-}
-
-abbrev pub pllQ15 : StereoPllQ15 → Pll ℤ
-pllQ15 d = record {
   gains = record {
     kp = d .kp;
     ki = d .ki;
@@ -44,7 +25,3 @@ pllQ15 d = record {
 abbrev pub saysF32 : NewF32 → Built (Pll Float)
 saysF32 (newF32.Made d) = made (pllF32 d)
 saysF32 (newF32.Refused n) = refused n
-
-abbrev pub saysQ15 : NewQ15 → Built (Pll ℤ)
-saysQ15 (newQ15.Made d) = made (pllQ15 d)
-saysQ15 (newQ15.Refused n) = refused n

@@ -1,7 +1,7 @@
 // Left and right in Q15.
 use answers::answer::is_accepted;
 use decoder_q15::parts::ReplyQ15;
-use decoder_record::pll_q15::StereoPllQ15;
+use decoder_record_q15::pll_q15::StereoPllQ15;
 use matrix::matrix::left_q15;
 use matrix::matrix::right_q15;
 ghost use mathlib.Core.Path.{_≡_};
@@ -9,7 +9,7 @@ ghost use lib.ListN.{length};
 ghost use Rattle.answers.specs.Answer.{says, accepted};
 ghost use Rattle.matrix.specs.Matrix.{filledQ15};
 ghost use Rattle.decoder_q15.specs.Q15.{q15};
-ghost use Rattle.decoder_record.specs.Records.{pllQ15};
+ghost use Rattle.decoder_record_q15.specs.Records.{pllQ15};
 ghost use Rattle.merged.specs.Merged.{mergedOf};
 
 // Sum and difference become left and right, where they lie, so that no buffer is needed.

@@ -1,11 +1,11 @@
 // The Q15 decoder, lent and changed by the block (`&mut StereoPllState` in stereo.rs).
 use answers::answer::Answer;
-use decoder_record::pll_q15::StereoPllQ15;
+use decoder_record_q15::pll_q15::StereoPllQ15;
 ghost use mathlib.Core.Path.{_≡_};
 ghost use Rattle.answers.specs.Answer.{says};
 ghost use Rattle.decoder.specs.Machine.{blockOf};
 ghost use Rattle.decoder_q15.specs.Q15.{q15};
-ghost use Rattle.decoder_record.specs.Records.{pllQ15};
+ghost use Rattle.decoder_record_q15.specs.Records.{pllQ15};
 
 // A block, the fast way.
 pub fn block(

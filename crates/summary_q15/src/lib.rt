@@ -4,7 +4,7 @@ use answers::answer::ENTRIES;
 use answers::answer::is_accepted;
 use decoder_q15::fast::step_checked;
 use decoder_q15::parts::block_answer;
-use decoder_record::pll_q15::StereoPllQ15;
+use decoder_record_q15::pll_q15::StereoPllQ15;
 use summary_counts::counted;
 use summary_counts::is_full;
 use summary_counts::summary_answer;
@@ -16,8 +16,8 @@ ghost use mathlib.Core.Bool.{true};
 ghost use lib.ListN.{length};
 ghost use Rattle.answers.specs.Answer.{says, entries};
 ghost use Rattle.decoder_q15.specs.Q15.{q15};
-ghost use Rattle.decoder_record.specs.Records.{pllQ15};
-ghost use Rattle.decoder_record.specs.Fit.{fitQ15};
+ghost use Rattle.decoder_record_q15.specs.Records.{pllQ15};
+ghost use Rattle.decoder_record_q15.specs.Fit.{fitQ15};
 ghost use Rattle.summary_counts.specs.Counts.{endingOf};
 ghost use Rattle.summary.specs.Summary.{summaryRun, summaryOf};
 ghost use Rattle.summary_record.specs.Record.{summaryFit};
@@ -145,7 +145,7 @@ pub fn block(
         }) ⌝ }
 {
     let own = block_answer(
-        decoder_record::pll_q15::is_fit(d),
+        decoder_record_q15::pll_q15::is_fit(d),
         table.len(),
         mpx.len(),
         pilot.len(),

@@ -5,7 +5,7 @@ use crate::show::label;
 use crate::show::number;
 use crate::show::sample;
 use decoder_record::pll_f32::StereoPllF32;
-use decoder_record::pll_q15::StereoPllQ15;
+use decoder_record_q15::pll_q15::StereoPllQ15;
 use test_lines::words::word_f32;
 ghost use mathlib.Core.Path.{_≡_};
 ghost use Prim.Native.Nat.{_≤_};

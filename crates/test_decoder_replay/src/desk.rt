@@ -3,7 +3,7 @@
 use crate::session_f32::PairF32;
 use crate::session_q15::PairQ15;
 use decoder_record::pll_f32::StereoPllF32;
-use decoder_record::pll_q15::StereoPllQ15;
+use decoder_record_q15::pll_q15::StereoPllQ15;
 use test_lines::tally::Tally;
 
 pub struct Desk {

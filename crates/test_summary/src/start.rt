@@ -3,7 +3,7 @@
 use crate::call::Both;
 use answers::answer::Answer;
 use decoder_record::pll_f32::StereoPllF32;
-use decoder_record::pll_q15::StereoPllQ15;
+use decoder_record_q15::pll_q15::StereoPllQ15;
 use summary::SummarizedF32;
 use summary_counts::Counts;
 use summary_q15::SummarizedQ15;

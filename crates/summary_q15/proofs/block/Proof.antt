@@ -5,7 +5,7 @@ use mathlib.Core.List.{_∷_}
 use lib.IntN.{ℤ}
 use lib.ListN.{length}
 use Rattle.answers.specs.Answer.{says, rule, firstCause}
-use Rattle.decoder_record.specs.Records.{pllQ15}
+use Rattle.decoder_record_q15.specs.Records.{pllQ15}
 use Rattle.decoder.specs.Machine.{lengthCauses, blockSays}
 use Rattle.decoder_q15.specs.Q15.{q15}
 use Rattle.summary_record.specs.Record.{summaryFit}

@@ -11,8 +11,8 @@ use mir.Syntax.{w16, w64}
 use mir.Val.{Fits, SFits, toZ, ofZ}
 use mir.Facts.{toZ-ofZ}
 use Rattle.rounding.proofs.Lin.{back}
-use Rattle.decoder_record.specs.Fit.{fitQ15}
-use Rattle.decoder_record.specs.Records.{pllQ15}
+use Rattle.decoder_record_q15.specs.Fit.{fitQ15}
+use Rattle.decoder_record_q15.specs.Records.{pllQ15}
 use Rattle.decoder.specs.Machine.{Stepped, stepOf}
 use Rattle.decoder_q15.specs.Q15.{q15}
 use Rattle.decoder_q15.proofs.Kept.{fit-next}

@@ -8,7 +8,7 @@ use lib.ListN.{length}
 use mir.Syntax.{w16}
 use Rattle.rounding.proofs.Lin.{back}
 use Rattle.decoder_q15.specs.Q15.{q15}
-use Rattle.decoder_record.specs.Records.{pllQ15}
+use Rattle.decoder_record_q15.specs.Records.{pllQ15}
 use Rattle.decoder.proofs.Loops.{going-start, going-end}
 use Rattle.decoder_q15.proofs.Kept.{GoingFit, going-fit-next}
 use Rattle.decoder_q15.proofs.fast.run.Statement.{statement}

@@ -12,10 +12,10 @@ use Rattle.rounding.proofs.Lin.{back, le-yes-in}
 use Rattle.phase.specs.Lookup.{sineAt, cosQ15}
 use Rattle.decoder_record.specs.State.{Pll}
 use Rattle.decoder_q15.specs.Q15.{levelQ15}
-use Rattle.decoder_record.specs.Records.{pllQ15}
-use Rattle.decoder_record.specs.Fit.{guardOf}
-use Rattle.decoder_record.proofs.Fit.{fitted, level-fit}
-use Rattle.decoder_record.proofs.Held.{Held, held}
+use Rattle.decoder_record_q15.specs.Records.{pllQ15}
+use Rattle.decoder_record_q15.specs.Fit.{guardOf}
+use Rattle.decoder_record_q15.proofs.Fit.{fitted, level-fit}
+use Rattle.decoder_record_q15.proofs.Held.{Held, held}
 use Rattle.decoder_q15.proofs.Kept.{ki-room, guard-room}
 use Rattle.decoder_q15.proofs.Samples.{step-q15-is, lookup-le, product-small}
 use Rattle.decoder_q15.proofs.fast.step.Statement.{statement}

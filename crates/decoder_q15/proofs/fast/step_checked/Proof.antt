@@ -3,8 +3,8 @@ use mathlib.Core.Path.{_≡_, sym, _∙_}
 use mathlib.Core.Bool.{true, false}
 use mir.Syntax.{w16}
 use mir.Facts.{toZ-ofZ}
-use Rattle.decoder_record.specs.Fit.{fitQ15}
-use Rattle.decoder_record.specs.Records.{pllQ15}
+use Rattle.decoder_record_q15.specs.Fit.{fitQ15}
+use Rattle.decoder_record_q15.specs.Records.{pllQ15}
 use Rattle.decoder_q15.proofs.fast.step_checked.Statement.{statement}
 use Rattle.decoder_q15.proofs.fast.step_checked.Tie as tie
 

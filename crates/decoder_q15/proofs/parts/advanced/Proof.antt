@@ -7,12 +7,12 @@ use Rattle.rounding.proofs.Lin.{back}
 use Rattle.decoder_record.specs.State.{Pll}
 use Rattle.decoder.specs.Machine.{limited}
 use Rattle.decoder_q15.specs.Q15.{q15}
-use Rattle.decoder_record.specs.Records.{pllQ15}
-use Rattle.decoder_record.proofs.Fit.{limit}
+use Rattle.decoder_record_q15.specs.Records.{pllQ15}
+use Rattle.decoder_record_q15.proofs.Fit.{limit}
 use Rattle.decoder_parts.specs.Rules.{decideQ15}
 use Rattle.decoder.proofs.Steps.{advanced-is}
 use Rattle.decoder_q15.proofs.Kept.{kp-room, under-largest}
-use Rattle.decoder_record.proofs.Held.{Held, held}
+use Rattle.decoder_record_q15.proofs.Held.{Held, held}
 use Rattle.decoder_q15.proofs.parts.advanced.Statement.{statement}
 use Rattle.decoder_q15.proofs.parts.advanced.Tie as tie
 

@@ -8,7 +8,7 @@ use mir.Val.{toZ}
 use mir.Facts.{toZ-ofZ}
 use Rattle.decoder.specs.Machine.{limited}
 use Rattle.decoder_q15.specs.Q15.{q15}
-use Rattle.decoder_record.proofs.Ranges.{minus-fits, minus-held}
+use Rattle.decoder_record_q15.proofs.Ranges.{minus-fits, minus-held}
 use Rattle.decoder_q15.proofs.parts.within.Statement.{statement}
 use Rattle.decoder_q15.proofs.parts.within.Tie as tie
 

@@ -9,9 +9,9 @@ use Rattle.rounding.proofs.Lin.{back}
 use Rattle.phase.specs.Lookup.{sineAt, cosQ15}
 use Rattle.decoder_record.specs.State.{Pll}
 use Rattle.decoder_q15.specs.Q15.{levelQ15}
-use Rattle.decoder_record.specs.Records.{pllQ15}
-use Rattle.decoder_record.proofs.Fit.{level-fit}
-use Rattle.decoder_record.proofs.Held.{Held, held}
+use Rattle.decoder_record_q15.specs.Records.{pllQ15}
+use Rattle.decoder_record_q15.proofs.Fit.{level-fit}
+use Rattle.decoder_record_q15.proofs.Held.{Held, held}
 use Rattle.decoder_q15.proofs.Kept.{ki-room, guard-below}
 use Rattle.decoder_q15.proofs.Samples.{step-q15-is, product-small}
 use Rattle.decoder_q15.proofs.plain.step.Statement.{statement}

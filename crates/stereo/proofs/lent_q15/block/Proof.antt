@@ -48,11 +48,11 @@ use denote.Exit.{yes}
 use Rattle.answers.specs.Answer.{says as told}
 use Rattle.decoder.specs.Machine.{Blocked, blockOf}
 use Rattle.decoder_q15.specs.Q15.{q15 as arithmetic}
-use Rattle.decoder_record.specs.Records.{pllQ15}
-use Rattle.decoder_record.specs.declared.pll_q15.StereoPllQ15.{StereoPllQ15}
+use Rattle.decoder_record_q15.specs.Records.{pllQ15}
+use Rattle.decoder_record_q15.specs.declared.pll_q15.StereoPllQ15.{StereoPllQ15}
 use Rattle.decoder_q15.specs.declared.parts.ReplyQ15.{ReplyQ15}
-use Rattle.decoder_record.proofs.pll_q15.StereoPllQ15 as T
-use Rattle.decoder_record.proofs.pll_q15.StereoPllQ15.Laws as T′
+use Rattle.decoder_record_q15.proofs.pll_q15.StereoPllQ15 as T
+use Rattle.decoder_record_q15.proofs.pll_q15.StereoPllQ15.Laws as T′
 use Rattle.answers.proofs.answer.Answer as E
 use Rattle.answers.proofs.answer.Answer.Laws as E′
 use Rattle.decoder_q15.proofs.parts.ReplyQ15 as P

@@ -1,0 +1,5 @@
+pub mod Ranges
+pub mod Fit
+pub mod Held
+pub mod Fresh
+pub mod Free

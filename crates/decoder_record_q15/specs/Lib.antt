@@ -1,0 +1,3 @@
+pub mod Fit
+pub mod Fresh
+pub mod Records

@@ -1,0 +1,3 @@
+// The stereo decoder's Q15 record: construction, the calls that only set fields, the read-outs, and which
+// records a block takes.
+pub mod pll_q15;
