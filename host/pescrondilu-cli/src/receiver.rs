@@ -295,6 +295,45 @@ mod tests {
     }
 
     #[test]
+    fn the_loop_reaches_as_far_as_the_report_says() {
+        let limit = Receiver::<f32>::new(SETTINGS)
+            .unwrap()
+            .pll
+            .integrator_limit();
+        assert!((limit * SETTINGS.rate - LOOP_REACH_HZ).abs() < 1e-4);
+        let limit = Receiver::<Q15>::new(SETTINGS)
+            .unwrap()
+            .pll
+            .integrator_limit();
+        assert!((limit * SETTINGS.rate - LOOP_REACH_HZ).abs() < 1e-4);
+    }
+
+    /// What the receiver says of a tone, in pieces of any size.
+    fn tone_at(hz: f64, piece: usize) -> Option<(f64, f64)> {
+        let turn = std::f64::consts::TAU * hz / SETTINGS.rate;
+        let value = |i: u32| (0.09 * (turn * f64::from(i)).sin()) as f32;
+        let mpx: Vec<f32> = (0..38_400).map(value).collect();
+        let mut receiver = Receiver::<f32>::new(SETTINGS).unwrap();
+        let (mut see, mut audio) = (|_| Ok(()), Stereo::default());
+        for piece in mpx.chunks(piece) {
+            receiver.run(piece, &mut see, &mut audio).unwrap();
+        }
+        receiver.finish(&mut see, &mut audio).unwrap();
+        receiver.tone()
+    }
+
+    #[test]
+    fn a_tone_is_told_as_it_came_in_until_the_lamp_lights() {
+        for hz in [17_500.0, 18_500.0, 19_400.0, 20_500.0] {
+            let (frequency, amplitude) = tone_at(hz, 38_400).unwrap();
+            assert!((frequency - hz).abs() < 1.0, "{frequency} for {hz}");
+            assert!((amplitude - 0.09).abs() < 0.001, "{amplitude} at {hz}");
+            assert_eq!(tone_at(hz, 77), tone_at(hz, 38_400));
+        }
+        assert_eq!(tone_at(19_000.0, 192), None);
+    }
+
+    #[test]
     fn audio_and_sights_are_as_long_as_the_capture() {
         for pieces in [1, 100, 5_000] {
             let mut receiver = Receiver::<f32>::new(SETTINGS).unwrap();
