@@ -58,8 +58,8 @@ so that left and right are not limited before their low-pass.
 
 The report says whether the pilot is within ITU-R BS.450: 18998 to 19002 Hz and an amplitude of 0.08
 to 0.1 of full deviation. The frequency is by the capture's own clock, and an error of that clock of
-100 parts in a million moves it by 1.9 Hz. The loop follows a pilot to 50 Hz from 19 kHz; a tone
-further away is named where the lamp never lit.
+100 parts in a million moves it by 1.9 Hz. The loop's integrator is limited to 50 Hz; a tone further
+from 19 kHz is named where the lamp never lit.
 
 Examples
   pescrondilu decode capture.wav -o audio.wav --log lamp.csv --plot lamp.svg

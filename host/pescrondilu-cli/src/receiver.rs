@@ -13,8 +13,9 @@ use crate::format::{Format, fill, fill_f32, fill_multiplex};
 use crate::tone::Tone;
 
 pub const PILOT_HZ: f64 = 19_000.0;
-/// The core's loop follows a pilot this far to either side of 19 kHz.
-pub const LOOP_REACH_HZ: f64 = 50.0;
+/// The limit of the core's integrator: a pilot further from 19 kHz leaves the loop with a phase
+/// error, or without lock.
+pub const INTEGRATOR_LIMIT_HZ: f64 = 50.0;
 /// The band-pass stops from this far to either side: programme begins 4 kHz away.
 const PILOT_REACH_HZ: f64 = 4_000.0;
 /// Below this rate what the loop makes around 76 kHz would fold into the audio.
@@ -295,17 +296,17 @@ mod tests {
     }
 
     #[test]
-    fn the_loop_reaches_as_far_as_the_report_says() {
+    fn the_integrator_s_limit_is_the_core_s() {
         let limit = Receiver::<f32>::new(SETTINGS)
             .unwrap()
             .pll
             .integrator_limit();
-        assert!((limit * SETTINGS.rate - LOOP_REACH_HZ).abs() < 1e-4);
+        assert!((limit * SETTINGS.rate - INTEGRATOR_LIMIT_HZ).abs() < 1e-4);
         let limit = Receiver::<Q15>::new(SETTINGS)
             .unwrap()
             .pll
             .integrator_limit();
-        assert!((limit * SETTINGS.rate - LOOP_REACH_HZ).abs() < 1e-4);
+        assert!((limit * SETTINGS.rate - INTEGRATOR_LIMIT_HZ).abs() < 1e-4);
     }
 
     /// What the receiver says of a tone, in pieces of any size.

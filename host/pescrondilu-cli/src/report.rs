@@ -4,7 +4,7 @@ use std::fmt::Write;
 
 use crate::history::{History, MOST_CHANGES};
 use crate::log::lamp;
-use crate::receiver::{LOOP_REACH_HZ, PILOT_HZ};
+use crate::receiver::{INTEGRATOR_LIMIT_HZ, PILOT_HZ};
 use crate::verdict::{USUAL_AMPLITUDE, number, pilot_words};
 
 pub struct Report<'a> {
@@ -24,6 +24,8 @@ pub struct Report<'a> {
     pub complaint: Option<String>,
 }
 
+/// Where the offset is the integrator's limit.
+const AT_LIMIT: &str = "the integrator stands at its limit, and the pilot may be further away";
 /// A level below this is that of no pilot.
 const NO_PILOT: f64 = 1e-4;
 
@@ -79,11 +81,11 @@ impl Report<'_> {
     fn never_lit(&self) -> String {
         let highest = self.history.totals().highest;
         let on = self.on;
-        if let Some((frequency, amplitude)) = self.out_of_reach() {
+        if let Some((frequency, amplitude)) = self.beyond_limit() {
             let words = pilot_words(frequency, 0, amplitude);
             return format!(
-                "no pilot was found within {LOOP_REACH_HZ} Hz of 19 kHz, which is as far as the loop \
-                 reaches.\n{:13}A tone stands at {words}",
+                "no pilot was found within {INTEGRATOR_LIMIT_HZ} Hz of 19 kHz, the limit of the loop's \
+                 integrator.\n{:13}A tone stands at {words}",
                 ""
             );
         }
@@ -100,11 +102,11 @@ impl Report<'_> {
         )
     }
 
-    /// A tone that the loop cannot follow.
-    fn out_of_reach(&self) -> Option<(f64, f64)> {
+    /// A tone further from 19 kHz than the integrator goes.
+    fn beyond_limit(&self) -> Option<(f64, f64)> {
         let beside = |hz: f64| (hz - PILOT_HZ).abs();
         self.tone
-            .filter(|(hz, amplitude)| beside(*hz) > LOOP_REACH_HZ && *amplitude > NO_PILOT)
+            .filter(|(hz, amplitude)| beside(*hz) > INTEGRATOR_LIMIT_HZ && *amplitude > NO_PILOT)
     }
 
     fn pilot(&self) -> String {
@@ -112,10 +114,9 @@ impl Report<'_> {
             return "no period was stereo throughout; a shorter --period may have some".into();
         };
         let words = pilot_words(PILOT_HZ + offset, 1, 2.0 * level);
-        // the integrator stops at its limit, and the pilot may be beyond it
-        match offset.abs() < 0.999 * LOOP_REACH_HZ {
+        match offset.abs() < 0.999 * INTEGRATOR_LIMIT_HZ {
             true => words,
-            false => format!("{words};\n{:13}the loop reaches no further", ""),
+            false => format!("{words};\n{:13}{AT_LIMIT}", ""),
         }
     }
 
@@ -273,7 +274,7 @@ mod tests {
     }
 
     #[test]
-    fn a_tone_out_of_reach_is_no_weak_pilot() {
+    fn a_tone_beyond_the_limit_is_no_weak_pilot() {
         let text = with_tone(&[(0.0003, false)], 0, false, Some((18_500.2, 0.09)));
         let words =
             "A tone stands at 18500 Hz, amplitude 0.0900: outside BS.450 (18998 to 19002 Hz)\n";

@@ -190,11 +190,11 @@ fn the_verdict_reads_the_frequency() {
 }
 
 #[test]
-fn a_pilot_beyond_the_loop_s_reach_is_named() {
-    let folder = Folder::new("reach");
+fn a_pilot_beyond_the_integrator_s_limit_is_named() {
+    let folder = Folder::new("limit");
     let outside = "outside BS.450 (18998 to 19002 Hz)";
     let at = |hz: &str| format!("A tone stands at {hz} Hz, amplitude 0.0900: {outside}\n");
-    let limit = format!("{outside};\n{:13}the loop reaches no further\n", "");
+    let limit = format!("{outside};\n{:13}the integrator stands at its limit", "");
     for (pilot_hz, words) in [
         (18_500.0, at("18500")),
         (19_300.0, at("19300")),
