@@ -4,7 +4,7 @@ use mathlib.Core.Bool.{Bool, true, false, cond}
 use mathlib.Core.List.{List, [], _∷_}
 use lib.Dec.{eqb}
 use Rattle.answers.specs.declared.answer.Answer.{Answer}
-use Rattle.answers.specs.declared.answer.Answer.the-variants.{Accepted, Unfit, Summary, Table, Input, Output}
+use Rattle.answers.specs.declared.answer.Answer.the-variants.{Accepted, Unfit, Summary, Number, Allowance, Table, Input, Output}
 use Rattle.answers.specs.declared.answer.Code.{Code}
 
 -- accepted, or the cause's number, for 9 to 11 with the length wanted and the one found
@@ -85,6 +85,8 @@ abbrev pub says : Answer → Said
 says Accepted = accepted
 says Unfit = turned 0
 says Summary = turned 20
+says Number = turned 21
+says Allowance = turned 22
 says (Table found) = lengths 9 entries found
 says (Input first found) = lengths 10 first found
 says (Output first found) = lengths 11 first found

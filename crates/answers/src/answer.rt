@@ -23,6 +23,10 @@ pub enum Answer {
     Unfit,
     // a summary's record is none that a call leaves
     Summary,
+    // a rack's number of decoders is not 2 to 8
+    Number,
+    // a rack's allowance is smaller than its number of decoders
+    Allowance,
     // the table's length
     Table(usize),
     // the first input's length, and that of the input at fault
@@ -47,6 +51,8 @@ pub fn is_accepted(a: Answer) -> bool
         Answer::Accepted => true,
         Answer::Unfit => false,
         Answer::Summary => false,
+        Answer::Number => false,
+        Answer::Allowance => false,
         Answer::Table(_) => false,
         Answer::Input(_, _) => false,
         Answer::Output(_, _) => false,
@@ -102,6 +108,16 @@ pub fn code_of(a: Answer) -> Code
         },
         Answer::Summary => Code {
             code: 120,
+            expected: 0,
+            got: 0,
+        },
+        Answer::Number => Code {
+            code: 121,
+            expected: 0,
+            got: 0,
+        },
+        Answer::Allowance => Code {
+            code: 122,
             expected: 0,
             got: 0,
         },
