@@ -1,0 +1,145 @@
+// A rack of two to eight f32 decoders: a round works each of them on its share of the allowance.
+use answers::answer::Answer;
+use answers::answer::is_accepted;
+use decoder_record::pll_f32::StereoPllF32;
+use rack_waiting::Waiting;
+use rack_waiting::least;
+use rack_waiting::parts;
+use rack_waiting::round_answer;
+use rack_waiting::taken;
+ghost use mathlib.Core.Path.{_≡_};
+ghost use mathlib.Core.List.{map};
+ghost use Prim.Native.Nat.{_≤_};
+ghost use Rattle.answers.specs.Answer.{says};
+ghost use Rattle.decoder_record.specs.Records.{pllF32};
+ghost use Rattle.decoder.specs.F32.{f32};
+ghost use Rattle.rack_waiting.specs.Agreed.{Agreed};
+ghost use Rattle.rack.specs.Round.{waitingOf, queuesOf, workedOf, roundOf};
+
+// What a round answers, how many samples each decoder took, and the decoders after it.
+pub struct RoundF32 {
+    pub answer: Answer,
+    pub taken: [usize; 8],
+    pub decoders: [StereoPllF32; 8],
+}
+
+// The first decoders in order, each on its own part.
+fn work(
+    decoders: [StereoPllF32; 8],
+    number: usize,
+    share: usize,
+    parts: [Waiting; 8],
+    table: &[f32],
+    mpx: &[f32],
+    pilot: &[f32],
+    sum: &mut [f32],
+    difference: &mut [f32],
+) -> [StereoPllF32; 8]
+    requires { ⌜ number ≤ 8 ⌝
+        ∗ ⌜ Agreed number parts (waitingOf (record {
+          mpx = now mpx;
+          pilot = now pilot;
+          sum = now sum;
+          difference = now difference;
+        })) ⌝ }
+    ensures { λ r. ⌜ record {
+      sum = now (sum .exit);
+      difference = now (difference .exit);
+      decoders = map pllF32 r;
+    }
+        ≡ workedOf f32 number (now (table .entry)) share (map pllF32 decoders)
+        (queuesOf parts (record {
+          mpx = now (mpx .entry);
+          pilot = now (pilot .entry);
+          sum = now (sum .entry);
+          difference = now (difference .entry);
+        }))
+        (now (sum .entry)) (now (difference .entry)) ⌝ }
+{
+    let mut next = decoders;
+    let mut k = 0usize;
+    let mut a = 0usize;
+    while k < number {
+        let w = parts[k];
+        let e = a + least(share, w.mpx);
+        let d = next[k];
+        let reply = decoder::fast::block(
+            d,
+            table,
+            &mpx[a..e],
+            &pilot[a..e],
+            &mut sum[a..e],
+            &mut difference[a..e],
+        );
+        let after = reply.decoder;
+        next[k] = after;
+        a += w.mpx;
+        k += 1;
+    }
+    next
+}
+
+// A round: 21, 22, or the earliest decoder's refusal, and nothing is touched; else every decoder takes its
+// share, or what waits, if less.
+pub fn round(
+    decoders: [StereoPllF32; 8],
+    number: usize,
+    allowance: u32,
+    waiting: [Waiting; 8],
+    table: &[f32],
+    mpx: &[f32],
+    pilot: &[f32],
+    sum: &mut [f32],
+    difference: &mut [f32],
+) -> RoundF32
+    ensures { λ r. ⌜ record {
+      said = says (r .answer);
+      taken = r .taken;
+      worked = record {
+        sum = now (sum .exit);
+        difference = now (difference .exit);
+        decoders = map pllF32 (r .decoders);
+      };
+    }
+        ≡ roundOf f32 number allowance (now (table .entry)) (map pllF32 decoders) waiting (record {
+          mpx = now (mpx .entry);
+          pilot = now (pilot .entry);
+          sum = now (sum .entry);
+          difference = now (difference .entry);
+        }) ⌝ }
+{
+    let cut = parts(
+        waiting,
+        Waiting {
+            mpx: mpx.len(),
+            pilot: pilot.len(),
+            sum: sum.len(),
+            difference: difference.len(),
+        },
+    );
+    let answer = round_answer(number, allowance, table.len(), [true; 8], cut);
+    if !is_accepted(answer) {
+        return RoundF32 {
+            answer,
+            taken: [0; 8],
+            decoders,
+        };
+    }
+    let share = allowance as usize / number;
+    let next = work(
+        decoders,
+        number,
+        share,
+        cut,
+        table,
+        mpx,
+        pilot,
+        sum,
+        difference,
+    );
+    RoundF32 {
+        answer,
+        taken: taken(number, share, cut),
+        decoders: next,
+    }
+}

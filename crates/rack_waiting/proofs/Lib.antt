@@ -1,0 +1,4 @@
+pub mod Beside
+pub mod Loops
+pub mod Answers
+pub mod Agreement
