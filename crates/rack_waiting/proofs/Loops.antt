@@ -69,3 +69,15 @@ constant {A} {B} v n l e = ap (λ (m : ℕ). replicate m v) (sym e) ∙ all l
     all : (l : List A) → replicate (length l) v ≡ map (λ (x : A). v) l
     all [] = refl
     all (x ∷ l) = ap (λ (r : List B). v ∷ r) (all l)
+
+-- ---- a loop that works out f at each place
+pub mapped-next : {A B : Type 0} (f : A → B) (k : ℕ) (xs : List A) (l : List B) (x : A) (v : B) → k < length xs → k < length l
+    → take k l ≡ map f (take k xs) → v ≡ f (getD xs k x) → take (k + 1) (set l k v) ≡ map f (take (k + 1) xs)
+mapped-next {A} {B} f k xs l x v hx hl h e =
+    ap (λ (n : ℕ). take n (set l k v)) (add-one k) ∙ take-suc-set l k v hl
+    ∙ (λ j. h j ++ (e j ∷ []))
+    ∙ sym (ap (map f) (ap (λ (n : ℕ). take n xs) (add-one k) ∙ take-suc xs k x hx) ∙ map-append f (take k xs) (getD xs k x ∷ []))
+
+pub mapped-end : {A B : Type 0} (f : A → B) (n k : ℕ) (xs : List A) (l : List B) → length xs ≡ n → length l ≡ n → n ≤ k
+    → take k l ≡ map f (take k xs) → l ≡ map f xs
+mapped-end f n k xs l ex el h e = sym (take-all k l (omega arith)) ∙ e ∙ ap (map f) (take-all k xs (omega arith))
