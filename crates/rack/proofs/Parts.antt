@@ -1,9 +1,9 @@
 -- Parts of flat lists that are lent one after the other, over the element type. Assumes nothing.
-use Prim.Native.Nat.{ℕ, zero, suc, _+_, _-_, _^_, _≤_, _<_}
+use Prim.Native.Nat.{ℕ, _+_, _-_, _^_, _≤_, _<_}
 use native.Mathlib.Omega.{arith}
 use mathlib.Core.Path.{_≡_, refl, sym, ap, _∙_}
-use mathlib.Core.List.{List, [], _∷_, _++_, map, append-assoc, append-nil}
-use lib.ListN.{length, take, drop, getD, set, length-append, length-drop, take-append-drop}
+use mathlib.Core.List.{List, [], _∷_, _++_, append-assoc, append-nil}
+use lib.ListN.{length, take, drop, getD, length-append, length-drop, take-append-drop}
 use lib.Seq.{take-at, drop-at, drop-drop, drop-append-le, length-take-le, getD-append-add, getD-drop}
 use mir.Syntax.{w64}
 use mir.Val.{Fits}
@@ -51,11 +51,6 @@ module _ {A : Type 0} where
   pub joined-more : (ls : List (List A)) (l : List A) → joined (ls ++ (l ∷ [])) ≡ joined ls ++ l
   joined-more [] l = append-nil l
   joined-more (x ∷ ls) l = ap (λ (r : List A). x ++ r) (joined-more ls l) ∙ sym (append-assoc x (joined ls) l)
-
-pub map-set : {A B : Type 0} (f : A → B) (l : List A) (i : ℕ) (v : A) → map f (set l i v) ≡ set (map f l) i (f v)
-map-set f [] i v = refl
-map-set f (x ∷ xs) zero v = refl
-map-set {B = B} f (x ∷ xs) (suc i) v = ap (λ (t : List B). f x ∷ t) (map-set f xs i v)
 
 -- ---- places of a rack, and of a slice
 pub small : (k n : ℕ) → k < n → n ≤ 8 → k < 8

@@ -81,3 +81,14 @@ mapped-next {A} {B} f k xs l x v hx hl h e =
 pub mapped-end : {A B : Type 0} (f : A → B) (n k : ℕ) (xs : List A) (l : List B) → length xs ≡ n → length l ≡ n → n ≤ k
     → take k l ≡ map f (take k xs) → l ≡ map f xs
 mapped-end f n k xs l ex el h e = sym (take-all k l (omega arith)) ∙ e ∙ ap (map f) (take-all k xs (omega arith))
+
+pub map-set : {A B : Type 0} (f : A → B) (l : List A) (i : ℕ) (v : A) → map f (set l i v) ≡ set (map f l) i (f v)
+map-set f [] i v = refl
+map-set f (x ∷ xs) zero v = refl
+map-set {B = B} f (x ∷ xs) (suc i) v = ap (λ (t : List B). f x ∷ t) (map-set f xs i v)
+
+-- .. and g is what the loop's elements stand for
+pub converted-next : {A B C : Type 0} (f : A → B) (g : C → B) (k : ℕ) (xs : List A) (l : List C) (x : A) (v : C) → k < length xs → k < length l
+    → take k (map g l) ≡ map f (take k xs) → g v ≡ f (getD xs k x) → take (k + 1) (map g (set l k v)) ≡ map f (take (k + 1) xs)
+converted-next {B = B} f g k xs l x v hx hl h e =
+    ap (take (k + 1)) (map-set g l k v) ∙ mapped-next f k xs (map g l) x (g v) hx (omega (arith, length-map l g)) h e

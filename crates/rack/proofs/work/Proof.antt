@@ -14,7 +14,8 @@ use Rattle.decoder_record.specs.Records.{pllF32}
 use Rattle.decoder.specs.F32.{f32}
 use Rattle.rack_waiting.specs.declared.Waiting.{Waiting}
 use Rattle.rack.specs.Round.{Queue}
-use Rattle.rack.proofs.Parts.{map-set, small, place, falls, next-fits, end-fits}
+use Rattle.rack_waiting.proofs.Loops.{map-set}
+use Rattle.rack.proofs.Parts.{small, place, falls, next-fits, end-fits}
 use Rattle.rack.proofs.Working.{Working, Inside, working-start, sum-kept, difference-kept, working-end, room, taken-room, working-next}
 use Rattle.rack.proofs.work.Statement.{statement}
 use Rattle.rack.proofs.work.Tie as tie
