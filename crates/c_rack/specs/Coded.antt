@@ -3,7 +3,7 @@ use Prim.Native.Nat.{ℕ}
 use mathlib.Core.List.{List, map}
 use Rattle.answers.specs.Answer.{codeOf}
 use Rattle.answers.specs.declared.answer.Code.{Code}
-use Rattle.rack.specs.Round.{Rounded}
+use Rattle.rack.specs.Flat.{Flat}
 use Rattle.c_decoder.specs.Coded.{Decoder, givenOf}
 
 -- the answer's numbers, how many samples each decoder took, the outputs, the next records, and their number,
@@ -16,14 +16,12 @@ pub record CodedRound (A : Type 0) : Type 0 where
   pub decoders : List (Decoder A)
   pub number : ℕ
 
-abbrev pub codedRound : {A : Type 0} → ℕ → Rounded A → CodedRound A
-codedRound number r =
-    let w = r .worked in
-    record {
-      answer = codeOf (r .said);
-      taken = r .taken;
-      sum = w .sum;
-      difference = w .difference;
-      decoders = map givenOf (w .decoders);
-      number = number;
-    }
+abbrev pub codedRound : {A : Type 0} → ℕ → Flat A → CodedRound A
+codedRound number r = record {
+  answer = codeOf (r .said);
+  taken = r .taken;
+  sum = r .sum;
+  difference = r .difference;
+  decoders = map givenOf (r .decoders);
+  number = number;
+}

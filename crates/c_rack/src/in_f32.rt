@@ -10,7 +10,7 @@ ghost use mathlib.Core.Path.{_≡_};
 ghost use mathlib.Core.List.{map};
 ghost use Rattle.decoder_record.specs.Records.{pllF32};
 ghost use Rattle.decoder.specs.F32.{f32};
-ghost use Rattle.rack.specs.Round.{roundOf};
+ghost use Rattle.rack.specs.Flat.{flatOf};
 ghost use Rattle.c_decoder.specs.Coded.{decoderF32, takenOf, givenOf};
 ghost use Rattle.c_rack.specs.Coded.{codedRound};
 
@@ -79,7 +79,7 @@ pub extern "C" fn pescrondilu_f32_rack_round(
       decoders = map decoderF32 (r .rack .decoders);
       number = r .rack .number;
     }
-        ≡ codedRound (rack .number) (roundOf f32 (rack .number) allowance (now (table .entry))
+        ≡ codedRound (rack .number) (flatOf f32 (rack .number) allowance (now (table .entry))
         (map takenOf (map decoderF32 (rack .decoders))) (waiting .decoders) (record {
           mpx = now (mpx .entry);
           pilot = now (pilot .entry);

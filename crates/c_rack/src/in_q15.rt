@@ -10,7 +10,7 @@ ghost use mathlib.Core.Path.{_≡_};
 ghost use mathlib.Core.List.{map};
 ghost use Rattle.decoder_record_q15.specs.Records.{pllQ15};
 ghost use Rattle.decoder_q15.specs.Q15.{q15};
-ghost use Rattle.rack.specs.Round.{roundOf};
+ghost use Rattle.rack.specs.Flat.{flatOf};
 ghost use Rattle.c_decoder.specs.Coded.{decoderQ15, takenOf, givenOf};
 ghost use Rattle.c_rack.specs.Coded.{codedRound};
 
@@ -79,7 +79,7 @@ pub extern "C" fn pescrondilu_q15_rack_round(
       decoders = map decoderQ15 (r .rack .decoders);
       number = r .rack .number;
     }
-        ≡ codedRound (rack .number) (roundOf q15 (rack .number) allowance (now (table .entry))
+        ≡ codedRound (rack .number) (flatOf q15 (rack .number) allowance (now (table .entry))
         (map takenOf (map decoderQ15 (rack .decoders))) (waiting .decoders) (record {
           mpx = now (mpx .entry);
           pilot = now (pilot .entry);

@@ -1,3 +1,4 @@
 pub mod Parts
 pub mod Working
+pub mod Turns
 pub mod Rounds

@@ -9,7 +9,7 @@ use mir.Syntax.{w64}
 use mir.Val.{Fits}
 use borrow.Author.Needs.{fits-under}
 use Rattle.rack_waiting.specs.Beside.{over}
-use Rattle.rack.specs.Round.{joined}
+use Rattle.rack.specs.Flat.{joined}
 
 module _ {A : Type 0} where
   -- what is lent past the front that is done

@@ -2,29 +2,24 @@
 use Prim.Native.Nat.{ℕ, _/_, _≤_, _<_}
 use mathlib.Core.Path.{_≡_, refl, sym, ap, _∙_}
 use mathlib.Core.Bool.{Bool, true, false, cond}
-use mathlib.Core.List.{List, [], _∷_, map}
+use mathlib.Core.List.{List, [], _∷_, map, map-map}
 use native.Mathlib.Omega.{arith}
 use lib.ListN.{length, take, drop, length-take, length-drop}
 use Rattle.answers.specs.Answer.{Said, accepts, kept, firstCause}
 use Rattle.decoder_record.specs.State.{Pll}
 use Rattle.decoder.specs.Machine.{Arithmetic}
 use Rattle.rack_waiting.specs.declared.Waiting.{Waiting}
-use Rattle.rack_waiting.specs.Beside.{beside}
+use Rattle.rack_waiting.specs.Beside.{beside, over}
 use Rattle.rack_waiting.specs.Waiting.{causeOf, partOf, restOf, partsOf, roundSays, takenOf}
 use Rattle.rack_waiting.specs.Agreed.{Agreed}
 use Rattle.rack_waiting.proofs.Beside.{take-cut, drop-cut}
 use Rattle.rack_waiting.proofs.Agreement.{Accepted, accepted-round, agreed-parts}
-use Rattle.rack.specs.Round.{Queue, waitingOf, frontOf, pastOf, queuesOf, Worked, Rounded, workedOf, roundOf}
+use Rattle.rack.specs.Round.{Queue, waitingOf, Turned, turnOf, roundOf}
+use Rattle.rack.specs.Flat.{frontOf, pastOf, queuesOf, joined, Flat, flatOf, Worked, workedOf}
+use Rattle.rack.proofs.Working.{length-queues}
+use Rattle.rack.proofs.Turns.{left-waiting, AsLong, sums-over, differences-over, turns-long, turns-taken}
 
 module _ {A : Type 0} where
-  left-waiting : (w : Waiting) (flat : Queue A) → waitingOf (pastOf w flat) ≡ restOf w (waitingOf flat)
-  left-waiting w flat = λ j. record {
-    mpx = length-drop (w .mpx) (flat .mpx) j;
-    pilot = length-drop (w .pilot) (flat .pilot) j;
-    sum = length-drop (w .sum) (flat .sum) j;
-    difference = length-drop (w .difference) (flat .difference) j;
-  }
-
   front-waiting : (w : Waiting) (flat : Queue A) → waitingOf (frontOf w flat) ≡ partOf w (waitingOf flat)
   front-waiting w flat = λ j. record {
     mpx = length-take (w .mpx) (flat .mpx) j;
@@ -63,69 +58,98 @@ module _ {A : Type 0} where
   queues-cut (w ∷ ws) flat =
       λ j. cut-front w flat j
       ∷ (ap (queuesOf (partsOf ws (restOf w (waitingOf flat)))) (cut-past w flat)
-        ∙ ap (λ (v : Waiting). queuesOf (partsOf ws v) (pastOf w flat)) (sym (left-waiting w flat))
-        ∙ queues-cut ws (pastOf w flat)) j
+      ∙ ap (λ (v : Waiting). queuesOf (partsOf ws v) (pastOf w flat)) (sym (left-waiting w flat))
+      ∙ queues-cut ws (pastOf w flat)) j
 
 -- a round that was answered s, by the lengths of its parts
 pub record Answered {A : Type 0} (F : Arithmetic A) (number allowance : ℕ) (t : List A) (ds : List (Pll A)) (ws : List Waiting) (flat : Queue A)
     (s : Said) (fits : List Bool) (cut : List Waiting) : Type 0 where
+  pub places : length ds ≡ length ws
   pub parts : cut ≡ partsOf ws (waitingOf flat)
   pub fit : fits ≡ map (F .fit) ds
   pub answer : s ≡ roundSays number allowance (length t) fits cut
 
 module _ {A : Type 0} {F : Arithmetic A} {number allowance : ℕ} {t : List A} {ds : List (Pll A)} {ws : List Waiting} {flat : Queue A}
     {s : Said} {fits : List Bool} {cut : List Waiting} (i : Answered F number allowance t ds ws flat s fits cut) where
-  -- what it takes and leaves, if it is accepted
   abbrev share : ℕ
   share = allowance / number
 
-  abbrev counts : List ℕ
-  counts = takenOf number share (map waitingOf (queuesOf ws flat))
+  abbrev qs : List (Queue A)
+  qs = queuesOf ws flat
 
-  abbrev after : Worked A
-  after = workedOf F number t share ds (queuesOf ws flat) (flat .sum) (flat .difference)
+  -- the turns of an accepted round, and what a round leaves by its turns
+  abbrev turns : List (Turned A)
+  turns = beside (turnOf F t share) number ds qs
 
-  -- .. and else
-  abbrev none : List ℕ
-  none = map (λ w. 0) ws
+  abbrev after : Said → List (Turned A) → Flat A
+  after z us = record {
+    said = z;
+    taken = over (map (λ u. u .taken) us) (map (λ q. 0) qs);
+    sum = over (joined (over (map (λ u. u .sum) us) (map (λ q. q .sum) qs))) (flat .sum);
+    difference = over (joined (over (map (λ u. u .difference) us) (map (λ q. q .difference) qs))) (flat .difference);
+    decoders = over (map (λ u. u .pll) us) ds;
+  }
 
-  abbrev before : Worked A
-  before = record { sum = flat .sum; difference = flat .difference; decoders = ds }
-
-  same-cut : cut ≡ map waitingOf (queuesOf ws flat)
+  same-cut : cut ≡ map waitingOf qs
   same-cut = i .parts ∙ sym (queues-waiting ws flat)
 
-  by-answer : record { said = s; taken = kept s counts none; worked = kept s after before } ≡ roundOf F number allowance t ds ws flat
-  unfolding roundOf
+  by-answer : after s (kept s turns []) ≡ flatOf F number allowance t ds ws flat
+  unfolding flatOf roundOf
   by-answer =
-      ap (λ (z : Said). record { said = z; taken = kept z counts none; worked = kept z after before })
+      ap (λ (z : Said). after z (kept z turns []))
       (i .answer ∙ (λ j. roundSays number allowance (length t) (i .fit j) (same-cut j)))
 
   -- by the outcome of the test
-  by-test : (b : Bool) → accepts s ≡ b → record { said = s; taken = cond b counts none; worked = cond b after before } ≡ roundOf F number allowance t ds ws flat
-  by-test b h = ap (λ (z : Bool). record { said = s; taken = cond z counts none; worked = cond z after before }) (sym h) ∙ by-answer
+  by-test : (b : Bool) → accepts s ≡ b → after s (cond b turns []) ≡ flatOf F number allowance t ds ws flat
+  by-test b h = ap (λ (z : Bool). after s (cond z turns [])) (sym h) ∙ by-answer
 
-  pub refused : {taken : List ℕ} → accepts s ≡ false → taken ≡ none → record { said = s; taken = taken; worked = before } ≡ roundOf F number allowance t ds ws flat
-  refused h et = ap (λ (l : List ℕ). record { said = s; taken = l; worked = before }) et ∙ by-test false h
+  pub refused : {taken : List ℕ} → accepts s ≡ false → taken ≡ map (λ q. 0) qs
+      → record { said = s; taken = taken; sum = flat .sum; difference = flat .difference; decoders = ds } ≡ flatOf F number allowance t ds ws flat
+  refused h et =
+      (λ j. record {
+        said = s;
+        taken = et j;
+        sum = sums-over [] ws flat tt j;
+        difference = differences-over [] ws flat tt j;
+        decoders = ds;
+      })
+      ∙ by-test false h
 
   pub agree : accepts s ≡ true → length fits ≡ 8 → (number ≤ 8) × Agreed number cut (waitingOf flat)
   agree h l =
       let x = accepted-round number allowance (length t) fits cut (ap accepts (sym (i .answer)) ∙ h) in (
         x .eight,
         rw (i .parts) (agreed-parts (length t) number fits ws (waitingOf flat) (omega (arith, x .eight))
-          (ap (λ (c : List Waiting). accepts (firstCause (beside (causeOf (length t)) number fits c))) (sym (i .parts)) ∙ x .own)),
+            (ap (λ (c : List Waiting). accepts (firstCause (beside (causeOf (length t)) number fits c))) (sym (i .parts)) ∙ x .own)),
       )
 
   pub some : accepts s ≡ true → 0 < number
   some h = omega (arith, accepted-round number allowance (length t) fits cut (ap accepts (sym (i .answer)) ∙ h) .two)
 
-  pub carried-out : {taken : List ℕ} {worked : Worked A} → accepts s ≡ true → taken ≡ takenOf number share cut
-      → worked ≡ workedOf F number t share ds (queuesOf cut flat) (flat .sum) (flat .difference)
-      → record { said = s; taken = taken; worked = worked } ≡ roundOf F number allowance t ds ws flat
-  carried-out h et ew =
+  pub carried-out : {taken : List ℕ} {sum difference : List A} {next : List (Pll A)} → accepts s ≡ true → length fits ≡ 8 → taken ≡ takenOf number share cut
+      → record { sum = sum; difference = difference; decoders = next } ≡ workedOf F number t share ds cut flat
+      → record { said = s; taken = taken; sum = sum; difference = difference; decoders = next } ≡ flatOf F number allowance t ds ws flat
+  unfolding workedOf
+  carried-out h l et ew =
       (λ j. record {
         said = s;
-        taken = (et ∙ ap (takenOf number share) same-cut) j;
-        worked = (ew ∙ ap (λ (q : List (Queue A)). workedOf F number t share ds q (flat .sum) (flat .difference)) (ap (λ (c : List Waiting). queuesOf c flat) (i .parts) ∙ queues-cut ws flat)) j;
+        taken = (et ∙ same-taken) j;
+        sum = (ap (λ (w : Worked A). w .sum) ew ∙ ap (λ (us : List (Turned A)). over (joined (map (λ u. u .sum) us)) (flat .sum)) same-turns ∙ sums-over (map (λ u. u .sum) turns) ws flat (long .0)) j;
+        difference = (ap (λ (w : Worked A). w .difference) ew ∙ ap (λ (us : List (Turned A)). over (joined (map (λ u. u .difference) us)) (flat .difference)) same-turns ∙ differences-over (map (λ u. u .difference) turns) ws flat (long .1)) j;
+        decoders = (ap (λ (w : Worked A). w .decoders) ew ∙ ap (λ (us : List (Turned A)). over (map (λ u. u .pll) us) ds) same-turns) j;
       })
       ∙ by-test true h
+    where
+      same-queues : queuesOf cut flat ≡ qs
+      same-queues = ap (λ (c : List Waiting). queuesOf c flat) (i .parts) ∙ queues-cut ws flat
+
+      same-turns : beside (turnOf F t share) number ds (queuesOf cut flat) ≡ turns
+      same-turns = ap (beside (turnOf F t share) number ds) same-queues
+
+      long : AsLong (map (λ u. u .sum) turns) (map (λ q. q .sum) qs) × AsLong (map (λ u. u .difference) turns) (map (λ q. q .difference) qs)
+      long = rw (← same-queues) (turns-long F t share number ds cut flat (agree h l .1))
+
+      same-taken : takenOf number share cut ≡ over (map (λ u. u .taken) turns) (map (λ q. 0) qs)
+      same-taken =
+          ap (takenOf number share) same-cut
+          ∙ (λ j. over (sym (turns-taken F t share number ds qs (omega (arith, i .places, length-queues ws flat))) j) (map-map (λ (w : Waiting). 0) waitingOf qs j))

@@ -17,7 +17,8 @@ use Rattle.rack_waiting.specs.Waiting.{restOf}
 use Rattle.rack_waiting.specs.Agreed.{Alike, Agreed}
 use Rattle.rack_waiting.proofs.Beside.{beside-more, length-beside, over-length, over-set}
 use Rattle.rack_waiting.proofs.Agreement.{agreed-next}
-use Rattle.rack.specs.Round.{Queue, waitingOf, frontOf, pastOf, queuesOf, joined, Turned, turnOf, Worked, workedOf}
+use Rattle.rack.specs.Round.{Queue, waitingOf, Turned, turnOf}
+use Rattle.rack.specs.Flat.{frontOf, pastOf, queuesOf, joined, Worked, workedOf}
 use Rattle.rack.proofs.Parts.{over-drop, over-get, over-lent, more-long, joined-more}
 
 pub length-queues : {A : Type 0} (ws : List Waiting) (flat : Queue A) → length (queuesOf ws flat) ≡ length ws
@@ -86,7 +87,7 @@ module _ {A : Type 0} {F : Arithmetic A} {number share : ℕ} {t : List A} {ds�
     pub difference-kept : length zs ≡ length (flat .difference)
     difference-kept = ap length (i .difference) ∙ over-length (differences F share t ds₀ parts flat k) (flat .difference) (omega (arith, i .difference-long, i .inside .difference))
 
-    pub working-end : number ≤ k → record { sum = ys; difference = zs; decoders = ds } ≡ workedOf F number t share ds₀ (queuesOf parts flat) (flat .sum) (flat .difference)
+    pub working-end : number ≤ k → record { sum = ys; difference = zs; decoders = ds } ≡ workedOf F number t share ds₀ parts flat
     unfolding workedOf
     working-end h =
         let e : k ≡ number = omega (arith, i .upto) in
@@ -166,7 +167,7 @@ module _ {A : Type 0} {F : Arithmetic A} {number share : ℕ} {t : List A} {ds�
 
       module _ (d : Pll A) (hd : k < length ds₀) (n : ℕ) (en : n ≡ min share m) {s : Said} {vy vz : List A} {p : Pll A}
           (b : record { said = s; sum = vy; difference = vz; pll = p }
-            ≡ blockOf F (getD ds k d) t (take (a + n - a) (drop a (flat .mpx))) (take (a + n - a) (drop a (flat .pilot))) (take (a + n - a) (drop a ys)) (take (a + n - a) (drop a zs)))
+          ≡ blockOf F (getD ds k d) t (take (a + n - a) (drop a (flat .mpx))) (take (a + n - a) (drop a (flat .pilot))) (take (a + n - a) (drop a ys)) (take (a + n - a) (drop a zs)))
           (ly : length vy ≡ length (take (a + n - a) (drop a ys))) (lz : length vz ≡ length (take (a + n - a) (drop a zs))) where
         n-part : a + n - a ≡ n
         n-part = omega arith
@@ -196,22 +197,23 @@ module _ {A : Type 0} {F : Arithmetic A} {number share : ℕ} {t : List A} {ds�
             ≡ record { said = s; sum = vy; difference = vz; pll = p }
         taken-block =
             (λ j. blockOf F (sym same-decoder j) t (cut (drop a (flat .mpx)) m refl j) (cut (drop a (flat .pilot)) (w .pilot) (alike .pilot) j)
-              ((cut (drop a (flat .sum)) (w .sum) (alike .sum) ∙ ap (take (a + n - a)) (sym same-sum)) j)
-              ((cut (drop a (flat .difference)) (w .difference) (alike .difference) ∙ ap (take (a + n - a)) (sym same-difference)) j))
+            ((cut (drop a (flat .sum)) (w .sum) (alike .sum) ∙ ap (take (a + n - a)) (sym same-sum)) j)
+            ((cut (drop a (flat .difference)) (w .difference) (alike .difference) ∙ ap (take (a + n - a)) (sym same-difference)) j))
             ∙ sym b
 
         turn-is : (q : Queue A) → turnOf F t share (getD ds₀ k d) (getD (queuesOf parts flat) k q)
-            ≡ record { sum = over vy (take m (drop a (flat .sum))); difference = over vz (take m (drop a (flat .difference))); pll = p }
+            ≡ record { taken = n; sum = over vy (take m (drop a (flat .sum))); difference = over vz (take m (drop a (flat .difference))); pll = p }
         unfolding turnOf
         turn-is q =
             ap (turnOf F t share (getD ds₀ k d)) (queue-is q)
-            ∙ ap of (ap (λ (z : ℕ). blockOf F (getD ds₀ k d) t (take z (take m (drop a (flat .mpx)))) (take z (take (w .pilot) (drop a (flat .pilot)))) (take z (take (w .sum) (drop a (flat .sum)))) (take z (take (w .difference) (drop a (flat .difference))))) took ∙ taken-block)
-            ∙ (λ j. record { sum = over vy (take (alike .sum j) (drop a (flat .sum))); difference = over vz (take (alike .difference j) (drop a (flat .difference))); pll = p })
+            ∙ ap (λ (z : ℕ). of z (blockOf F (getD ds₀ k d) t (take z (take m (drop a (flat .mpx)))) (take z (take (w .pilot) (drop a (flat .pilot)))) (take z (take (w .sum) (drop a (flat .sum)))) (take z (take (w .difference) (drop a (flat .difference)))))) took
+            ∙ ap (of n) taken-block
+            ∙ (λ j. record { taken = n; sum = over vy (take (alike .sum j) (drop a (flat .sum))); difference = over vz (take (alike .difference j) (drop a (flat .difference))); pll = p })
           where
-            of : Blocked A → Turned A
-            of o = record { sum = over (o .sum) (take (w .sum) (drop a (flat .sum))); difference = over (o .difference) (take (w .difference) (drop a (flat .difference))); pll = o .pll }
+            of : ℕ → Blocked A → Turned A
+            of z o = record { taken = z; sum = over (o .sum) (take (w .sum) (drop a (flat .sum))); difference = over (o .difference) (take (w .difference) (drop a (flat .difference))); pll = o .pll }
 
-        turns-next : (q : Queue A) → turns F share t ds₀ parts flat (k + 1) ≡ turns F share t ds₀ parts flat k ++ (record { sum = over vy (take m (drop a (flat .sum))); difference = over vz (take m (drop a (flat .difference))); pll = p } ∷ [])
+        turns-next : (q : Queue A) → turns F share t ds₀ parts flat (k + 1) ≡ turns F share t ds₀ parts flat k ++ (record { taken = n; sum = over vy (take m (drop a (flat .sum))); difference = over vz (take m (drop a (flat .difference))); pll = p } ∷ [])
         turns-next q =
             ap (turns F share t ds₀ parts flat) (add-one k)
             ∙ beside-more (turnOf F t share) k ds₀ (queuesOf parts flat) d q hd (omega (arith, length-queues parts flat))
@@ -221,7 +223,7 @@ module _ {A : Type 0} {F : Arithmetic A} {number share : ℕ} {t : List A} {ds�
         none = record { mpx = []; pilot = []; sum = []; difference = [] }
 
         abbrev after : Turned A
-        after = record { sum = over vy (take m (drop a (flat .sum))); difference = over vz (take m (drop a (flat .difference))); pll = p }
+        after = record { taken = n; sum = over vy (take m (drop a (flat .sum))); difference = over vz (take m (drop a (flat .difference))); pll = p }
 
         signal-next : (f : Turned A → List A) → joined (map f (turns F share t ds₀ parts flat (k + 1))) ≡ joined (map f (turns F share t ds₀ parts flat k)) ++ f after
         signal-next f =
@@ -257,7 +259,7 @@ module _ {A : Type 0} {F : Arithmetic A} {number share : ℕ} {t : List A} {ds�
               sum = y .0 ∙ ap (λ (l : List A). over l (flat .sum)) (sym es);
               difference = z .0 ∙ ap (λ (l : List A). over l (flat .difference)) (sym ed);
               decoders =
-                ap (λ (l : List (Pll A)). set l k p) (i .decoders)
-                ∙ over-set (plls F share t ds₀ parts flat k) ds₀ p k (length-map (turns F share t ds₀ parts flat k) (λ u. u .pll) ∙ length-beside (turnOf F t share) k ds₀ (queuesOf parts flat) (omega arith) (omega (arith, length-queues parts flat))) hd
-                ∙ ap (λ (l : List (Pll A)). over l ds₀) (sym (ap (map (λ u. u .pll)) (turns-next none) ∙ map-append (λ u. u .pll) (turns F share t ds₀ parts flat k) (after ∷ [])));
+                  ap (λ (l : List (Pll A)). set l k p) (i .decoders)
+                  ∙ over-set (plls F share t ds₀ parts flat k) ds₀ p k (length-map (turns F share t ds₀ parts flat k) (λ u. u .pll) ∙ length-beside (turnOf F t share) k ds₀ (queuesOf parts flat) (omega arith) (omega (arith, length-queues parts flat))) hd
+                  ∙ ap (λ (l : List (Pll A)). over l ds₀) (sym (ap (map (λ u. u .pll)) (turns-next none) ∙ map-append (λ u. u .pll) (turns F share t ds₀ parts flat k) (after ∷ [])));
             }

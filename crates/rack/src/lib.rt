@@ -14,7 +14,8 @@ ghost use Rattle.answers.specs.Answer.{says};
 ghost use Rattle.decoder_record.specs.Records.{pllF32};
 ghost use Rattle.decoder.specs.F32.{f32};
 ghost use Rattle.rack_waiting.specs.Agreed.{Agreed};
-ghost use Rattle.rack.specs.Round.{waitingOf, queuesOf, workedOf, roundOf};
+ghost use Rattle.rack.specs.Round.{waitingOf};
+ghost use Rattle.rack.specs.Flat.{workedOf, flatOf};
 
 // What a round answers, how many samples each decoder took, and the decoders after it.
 pub struct RoundF32 {
@@ -47,14 +48,12 @@ fn work(
       difference = now (difference .exit);
       decoders = map pllF32 r;
     }
-        ≡ workedOf f32 number (now (table .entry)) share (map pllF32 decoders)
-        (queuesOf parts (record {
+        ≡ workedOf f32 number (now (table .entry)) share (map pllF32 decoders) parts (record {
           mpx = now (mpx .entry);
           pilot = now (pilot .entry);
           sum = now (sum .entry);
           difference = now (difference .entry);
-        }))
-        (now (sum .entry)) (now (difference .entry)) ⌝ }
+        }) ⌝ }
 {
     let mut next = decoders;
     let mut k = 0usize;
@@ -95,13 +94,11 @@ pub fn round(
     ensures { λ r. ⌜ record {
       said = says (r .answer);
       taken = r .taken;
-      worked = record {
-        sum = now (sum .exit);
-        difference = now (difference .exit);
-        decoders = map pllF32 (r .decoders);
-      };
+      sum = now (sum .exit);
+      difference = now (difference .exit);
+      decoders = map pllF32 (r .decoders);
     }
-        ≡ roundOf f32 number allowance (now (table .entry)) (map pllF32 decoders) waiting (record {
+        ≡ flatOf f32 number allowance (now (table .entry)) (map pllF32 decoders) waiting (record {
           mpx = now (mpx .entry);
           pilot = now (pilot .entry);
           sum = now (sum .entry);

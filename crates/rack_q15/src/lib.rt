@@ -16,7 +16,8 @@ ghost use Rattle.decoder_record_q15.specs.Records.{pllQ15};
 ghost use Rattle.decoder_record_q15.specs.Fit.{fitQ15};
 ghost use Rattle.decoder_q15.specs.Q15.{q15};
 ghost use Rattle.rack_waiting.specs.Agreed.{Agreed};
-ghost use Rattle.rack.specs.Round.{waitingOf, queuesOf, workedOf, roundOf};
+ghost use Rattle.rack.specs.Round.{waitingOf};
+ghost use Rattle.rack.specs.Flat.{workedOf, flatOf};
 
 // What a round answers, how many samples each decoder took, and the decoders after it.
 pub struct RoundQ15 {
@@ -63,14 +64,12 @@ fn work(
       difference = now (difference .exit);
       decoders = map pllQ15 r;
     }
-        ≡ workedOf q15 number (now (table .entry)) share (map pllQ15 decoders)
-        (queuesOf parts (record {
+        ≡ workedOf q15 number (now (table .entry)) share (map pllQ15 decoders) parts (record {
           mpx = now (mpx .entry);
           pilot = now (pilot .entry);
           sum = now (sum .entry);
           difference = now (difference .entry);
-        }))
-        (now (sum .entry)) (now (difference .entry)) ⌝ }
+        }) ⌝ }
 {
     let mut next = decoders;
     let mut k = 0usize;
@@ -111,13 +110,11 @@ pub fn round(
     ensures { λ r. ⌜ record {
       said = says (r .answer);
       taken = r .taken;
-      worked = record {
-        sum = now (sum .exit);
-        difference = now (difference .exit);
-        decoders = map pllQ15 (r .decoders);
-      };
+      sum = now (sum .exit);
+      difference = now (difference .exit);
+      decoders = map pllQ15 (r .decoders);
     }
-        ≡ roundOf q15 number allowance (now (table .entry)) (map pllQ15 decoders) waiting (record {
+        ≡ flatOf q15 number allowance (now (table .entry)) (map pllQ15 decoders) waiting (record {
           mpx = now (mpx .entry);
           pilot = now (pilot .entry);
           sum = now (sum .entry);

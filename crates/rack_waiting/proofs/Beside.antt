@@ -53,7 +53,7 @@ module _ {A : Type 0} where
   over-set u l x k e h =
       ap (λ (z : List A). set (u ++ z) k x) (ap (λ (n : ℕ). drop n l) e ∙ drop-cons l k x h)
       ∙ set-at u (getD l k x) (drop (suc k) l) x k e
-      ∙ sym (ap (λ (n : ℕ). (u ++ (x ∷ [])) ++ drop n l) (long (length u) e ) ∙ append-assoc u (x ∷ []) (drop (suc k) l))
+      ∙ sym (ap (λ (n : ℕ). (u ++ (x ∷ [])) ++ drop n l) (long (length u) e) ∙ append-assoc u (x ∷ []) (drop (suc k) l))
     where
       long : (n : ℕ) → n ≡ k → length (u ++ (x ∷ [])) ≡ suc k
       long n q = omega (arith, length-append u (x ∷ []), e)

@@ -1,5 +1,5 @@
 use Prim.Native.Nat.{ℕ}
-use mathlib.Core.Path.{_≡_, refl, _∙_}
+use mathlib.Core.Path.{_≡_, refl, sym, _∙_}
 use mathlib.Core.Bool.{true}
 use mathlib.Core.List.{List, map}
 use borrow.Author.Needs.{needs}
@@ -12,6 +12,8 @@ use Rattle.decoder_record.specs.Records.{pllF32}
 use Rattle.decoder.specs.F32.{f32}
 use Rattle.rack_waiting.proofs.Loops.{constant}
 use Rattle.rack.specs.Round.{Queue}
+use Rattle.rack.specs.Flat.{queuesOf}
+use Rattle.rack.proofs.Working.{length-queues}
 use Rattle.rack.proofs.Rounds.{Answered, refused, agree, some, carried-out}
 use Rattle.rack.proofs.round.Statement.{statement}
 use Rattle.rack.proofs.round.Tie as tie
@@ -36,7 +38,7 @@ module _ (c : tie.After-is-accepted) where
   -- an f32 record is always taken
   answered : let a = start .args in
       Answered f32 (a .number) (a .allowance) (a .table .now) ds (a .waiting) flat (says (c .before .round-answer .result)) (replicate 8 true) (c .before .before .parts .result)
-  answered = record { parts = c .before .before .parts .ensures; fit = constant true 8 ds eight; answer = c .before .round-answer .ensures }
+  answered = record { places = eight ∙ sym waits; parts = c .before .before .parts .ensures; fit = constant true 8 ds eight; answer = c .before .round-answer .ensures }
 
 pub round-spec : {M : Type 1} → statement M
 round-spec =
@@ -45,10 +47,10 @@ round-spec =
     (λ c κs. search needs)
     (λ c κs. search needs)
     (λ c κs. search needs)
-    (λ r. let c = r .before in refused (answered c) (failed (c .is-accepted .ensures) (r .if1 .taken)) (constant {B = ℕ} 0 8 (start c .args .waiting) (waits c)))
+    (λ r. let c = r .before in refused (answered c) (failed (c .is-accepted .ensures) (r .if1 .taken)) (constant {B = ℕ} 0 8 (queuesOf (start c .args .waiting) (flat c)) (length-queues (start c .args .waiting) (flat c) ∙ waits c)))
     (λ r. let c = r .before in some (answered c) (passed (c .is-accepted .ensures) (r .if1 .left)))
     (λ r κs. let c = r .before .before .before in agree (answered c) (passed (c .is-accepted .ensures) (r .before .before .if1 .left)) refl)
     (λ c κs. search needs)
     (λ c. search needs)
     (λ c. search needs)
-    (λ r. let c = r .before .before .before .before .before .before .before .before .before in carried-out (answered c) (passed (c .is-accepted .ensures) (r .before .before .before .before .before .before .before .before .if1 .left)) (r .taken .ensures) (r .before .before .before .before .before .work .ensures)))
+    (λ r. let c = r .before .before .before .before .before .before .before .before .before in carried-out (answered c) (passed (c .is-accepted .ensures) (r .before .before .before .before .before .before .before .before .if1 .left)) refl (r .taken .ensures) (r .before .before .before .before .before .work .ensures)))

@@ -42,6 +42,6 @@ fit-records-spec =
     (λ c. search needs)
     loop-again
     (λ c.
-        let i = c .before .loop .inv in
-        let ds = c .before .before .args .t1 in
-        mapped-end (λ d. fitQ15 (pllQ15 d)) 8 (c .before .loop .k) ds (c .before .loop .fit) (i .1) (i .2) (c .loop-test .left) (i .3) ∙ sym (map-map fitQ15 pllQ15 ds)))
+    let i = c .before .loop .inv in
+    let ds = c .before .before .args .t1 in
+    mapped-end (λ d. fitQ15 (pllQ15 d)) 8 (c .before .loop .k) ds (c .before .loop .fit) (i .1) (i .2) (c .loop-test .left) (i .3) ∙ sym (map-map fitQ15 pllQ15 ds)))

@@ -1,5 +1,5 @@
 use Prim.Native.Nat.{ℕ}
-use mathlib.Core.Path.{_≡_, ap, _∙_}
+use mathlib.Core.Path.{_≡_, sym, ap, _∙_}
 use mathlib.Core.List.{List, map}
 use borrow.Author.Needs.{needs}
 use lib.ListN.{length, length-map}
@@ -12,6 +12,8 @@ use Rattle.decoder_record_q15.specs.Fit.{fitQ15}
 use Rattle.decoder_q15.specs.Q15.{q15}
 use Rattle.rack_waiting.proofs.Loops.{constant}
 use Rattle.rack.specs.Round.{Queue}
+use Rattle.rack.specs.Flat.{queuesOf}
+use Rattle.rack.proofs.Working.{length-queues}
 use Rattle.rack.proofs.Rounds.{Answered, refused, agree, some, carried-out}
 use Rattle.rack_q15.proofs.round.Statement.{statement}
 use Rattle.rack_q15.proofs.round.Tie as tie
@@ -35,7 +37,10 @@ module _ (c : tie.After-is-accepted) where
 
   answered : let a = start .args in
       Answered q15 (a .number) (a .allowance) (a .table .now) ds (a .waiting) flat (says (c .before .round-answer .result)) (c .before .before .fit-records .result) (c .before .before .before .parts .result)
-  answered = record { parts = c .before .before .before .parts .ensures; fit = c .before .before .fit-records .ensures; answer = c .before .round-answer .ensures }
+  answered = record { places = eight ∙ sym waits; parts = c .before .before .before .parts .ensures; fit = c .before .before .fit-records .ensures; answer = c .before .round-answer .ensures }
+
+  fit-places : length (c .before .before .fit-records .result) ≡ 8
+  fit-places = ap length (c .before .before .fit-records .ensures) ∙ length-map ds fitQ15 ∙ eight
 
 pub round-spec : {M : Type 1} → statement M
 round-spec =
@@ -45,10 +50,10 @@ round-spec =
     (λ c κs. search needs)
     (λ c κs. search needs)
     (λ c κs. search needs)
-    (λ r. let c = r .before in refused (answered c) (failed (c .is-accepted .ensures) (r .if1 .taken)) (constant {B = ℕ} 0 8 (start c .args .waiting) (waits c)))
+    (λ r. let c = r .before in refused (answered c) (failed (c .is-accepted .ensures) (r .if1 .taken)) (constant {B = ℕ} 0 8 (queuesOf (start c .args .waiting) (flat c)) (length-queues (start c .args .waiting) (flat c) ∙ waits c)))
     (λ r. let c = r .before in some (answered c) (passed (c .is-accepted .ensures) (r .if1 .left)))
-    (λ r κs. let c = r .before .before .before in agree (answered c) (passed (c .is-accepted .ensures) (r .before .before .if1 .left)) (ap length (c .before .before .fit-records .ensures) ∙ length-map (ds c) fitQ15 ∙ eight c))
+    (λ r κs. let c = r .before .before .before in agree (answered c) (passed (c .is-accepted .ensures) (r .before .before .if1 .left)) (fit-places c))
     (λ c κs. search needs)
     (λ c. search needs)
     (λ c. search needs)
-    (λ r. let c = r .before .before .before .before .before .before .before in carried-out (answered c) (passed (c .is-accepted .ensures) (r .before .before .before .before .before .before .if1 .left)) (r .taken .ensures) (r .before .before .before .work .ensures)))
+    (λ r. let c = r .before .before .before .before .before .before .before in carried-out (answered c) (passed (c .is-accepted .ensures) (r .before .before .before .before .before .before .if1 .left)) (fit-places c) (r .taken .ensures) (r .before .before .before .work .ensures)))

@@ -82,12 +82,12 @@ loop-again r =
       i .1,
       simp length-set (i .2),
       rw (map-set pllQ15 (at (l c) .loop .next) (k (l c)) (b .result .decoder))
-      (working-next (i .3) _ (h (l c)) (here (l c)) (pllQ15 absent)
-        (place (k (l c)) (start (l c) .args .number) (map pllQ15 d) (h (l c)) (start (l c) .pre .0) (length-map d pllQ15 ∙ i .1))
-        (l c .least .result) (l c .least .ensures)
-        {s = says (b .result .answer)} {vy = b .last .1 .1 .1 .1 .0} {vz = b .last .1 .1 .1 .1 .1 .0}
-        (rw (List·getD-map pllQ15 (at (l c) .loop .next) (k (l c)) absent) (b .ensures))
-        (b .kept .1 .1 .1 .1 .0) (b .kept .1 .1 .1 .1 .1 .0)),
+          (working-next (i .3) _ (h (l c)) (here (l c)) (pllQ15 absent)
+          (place (k (l c)) (start (l c) .args .number) (map pllQ15 d) (h (l c)) (start (l c) .pre .0) (length-map d pllQ15 ∙ i .1))
+          (l c .least .result) (l c .least .ensures)
+          {s = says (b .result .answer)} {vy = b .last .1 .1 .1 .1 .0} {vz = b .last .1 .1 .1 .1 .1 .0}
+          (rw (List·getD-map pllQ15 (at (l c) .loop .next) (k (l c)) absent) (b .ensures))
+          (b .kept .1 .1 .1 .1 .0) (b .kept .1 .1 .1 .1 .1 .0)),
     )
 
 pub work-spec : {M : Type 1} → statement M
