@@ -15,6 +15,7 @@ macro_rules! layout {
 pub mod decoder;
 pub mod encoder;
 pub mod numbers;
+pub mod rack;
 pub mod rds;
 pub mod summary;
 
