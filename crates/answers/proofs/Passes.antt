@@ -44,7 +44,7 @@ module _ {A : Type 0} where
           let last : n ≡ i = omega (arith, ltb-false i n e) in
           getD-at (samples n f) (f n) [] z i (length-samples n f ∙ last) ∙ ap f last
 
-  same-samples : (n : ℕ) (f g : ℕ → A) → ((i : ℕ) → i < n → f i ≡ g i) → samples n f ≡ samples n g
+  pub same-samples : (n : ℕ) (f g : ℕ → A) → ((i : ℕ) → i < n → f i ≡ g i) → samples n f ≡ samples n g
   unfolding samples
   same-samples zero f g h = refl
   same-samples (suc n) f g h = rw (same-samples n f g (λ i l. h i (omega arith)), h n (omega arith))

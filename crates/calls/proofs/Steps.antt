@@ -44,14 +44,14 @@ module _ {A : Type 0} (F : Arithmetic A) where
   block-ran d b h = rw h
 
   -- what the first k samples leave does not depend on the later ones
-  state-first : (t mpx pilot : List A) (d : Pll A) (k i : ℕ) → i ≤ k → stateAt F t (take k mpx) (take k pilot) d i ≡ stateAt F t mpx pilot d i
+  pub state-first : (t mpx pilot : List A) (d : Pll A) (k i : ℕ) → i ≤ k → stateAt F t (take k mpx) (take k pilot) d i ≡ stateAt F t mpx pilot d i
   unfolding stateAt
   state-first t mpx pilot d k zero h = refl
   state-first t mpx pilot d k (suc i) h =
       λ j. stepOf F t (state-first t mpx pilot d k i (omega arith) j) (getD-take k mpx i (F .nought) h j) (getD-take k pilot i (F .nought) h j) .pll
 
   -- the first samples of an accepted block are accepted
-  first-says : (d : Pll A) (b : Brought A) (k : ℕ) → k ≤ length (b .mpx) → saysOf d b ≡ accepted → saysOf d (firstOf k b) ≡ accepted
+  pub first-says : (d : Pll A) (b : Brought A) (k : ℕ) → k ≤ length (b .mpx) → saysOf d b ≡ accepted → saysOf d (firstOf k b) ≡ accepted
   first-says d b k l h =
       let x = both (rule 0 (F .fit d)) (firstCause (lengthCauses (length (b .table)) (length (b .mpx)) (length (b .pilot)) (length (b .first)) (length (b .second)))) (ap accepts h) in
       let n = lengths-equal (length (b .table)) (length (b .mpx)) (length (b .pilot)) (length (b .first)) (length (b .second)) (x .1) in

@@ -66,7 +66,7 @@ module _ {A : Type 0} (F : Arithmetic A) where
       under l e h = omega (arith, length-take n (q .mpx))
 
 -- ---- parts of a list, and lists as long as these in their place
-abbrev cutBy : {A : Type 0} → List ℕ → List A → List (List A)
+abbrev pub cutBy : {A : Type 0} → List ℕ → List A → List (List A)
 cutBy [] l = []
 cutBy (n ∷ ns) l = take n l ∷ cutBy ns (drop n l)
 
@@ -77,12 +77,12 @@ AsLong (u ∷ us) [] = ⊥
 AsLong (u ∷ us) (v ∷ vs) = (length u ≡ length v) × AsLong us vs
 
 module _ {A : Type 0} where
-  over-append : (a b l : List A) → over (a ++ b) l ≡ a ++ over b (drop (length a) l)
+  pub over-append : (a b l : List A) → over (a ++ b) l ≡ a ++ over b (drop (length a) l)
   over-append a b l =
       append-assoc a b (drop (length (a ++ b)) l)
       ∙ ap (λ (z : List A). a ++ (b ++ z)) (ap (λ (n : ℕ). drop n l) (length-append a b) ∙ sym (drop-drop (length b) (length a) l))
 
-  past-front : (n : ℕ) (l : List A) → drop (length (take n l)) l ≡ drop n l
+  pub past-front : (n : ℕ) (l : List A) → drop (length (take n l)) l ≡ drop n l
   past-front n l = ap (λ (m : ℕ). drop m l) (length-take n l) ∙ sym (drop-cut n l)
 
   over-cut : (us : List (List A)) (ns : List ℕ) (l : List A) → AsLong us (cutBy ns l) → over (joined (over us (cutBy ns l))) l ≡ over (joined us) l
@@ -101,12 +101,12 @@ module _ {A : Type 0} where
       ∙ ap (λ (z : List A). u ++ over (joined us) z) (sym past)
       ∙ sym (over-append u (joined us) l)
 
-  queues-sums : (ws : List Waiting) (flat : Queue A) → map (λ q. q .sum) (queuesOf ws flat) ≡ cutBy (map (λ w. w .sum) ws) (flat .sum)
+  pub queues-sums : (ws : List Waiting) (flat : Queue A) → map (λ q. q .sum) (queuesOf ws flat) ≡ cutBy (map (λ w. w .sum) ws) (flat .sum)
   unfolding queuesOf
   queues-sums [] flat = refl
   queues-sums (w ∷ ws) flat = ap (λ (l : List (List A)). take (w .sum) (flat .sum) ∷ l) (queues-sums ws (pastOf w flat))
 
-  queues-differences : (ws : List Waiting) (flat : Queue A) → map (λ q. q .difference) (queuesOf ws flat) ≡ cutBy (map (λ w. w .difference) ws) (flat .difference)
+  pub queues-differences : (ws : List Waiting) (flat : Queue A) → map (λ q. q .difference) (queuesOf ws flat) ≡ cutBy (map (λ w. w .difference) ws) (flat .difference)
   unfolding queuesOf
   queues-differences [] flat = refl
   queues-differences (w ∷ ws) flat = ap (λ (l : List (List A)). take (w .difference) (flat .difference) ∷ l) (queues-differences ws (pastOf w flat))

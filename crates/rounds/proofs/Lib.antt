@@ -1,0 +1,6 @@
+pub mod Places
+pub mod Runs
+pub mod Lists
+pub mod InPlace
+pub mod Fits
+pub mod Claims

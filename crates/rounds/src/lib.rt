@@ -1,0 +1,1 @@
+// Lists of rounds of a rack: specs/Rounds.antt has the claims. There is no code.
