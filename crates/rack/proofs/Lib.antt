@@ -2,3 +2,4 @@ pub mod Parts
 pub mod Working
 pub mod Turns
 pub mod Rounds
+pub mod Free

@@ -85,7 +85,7 @@ module _ {A : Type 0} (F : Arithmetic A) (number allowance : ℕ) (t : List A) (
       let own = ap (λ (l : List Waiting). accepts (firstCause (beside (causeOf (length t)) number (map (F .fit) ds) l))) (sym (queues-waiting ws flat)) ∙ x .own in
       rw (← queues-cut ws flat)
       (turns-long F t (shareOf c) number ds (partsOf ws (waitingOf flat)) flat
-        (agreed-parts (length t) number (map (F .fit) ds) ws (waitingOf flat) (omega (arith, x .eight, e8, length-map ds (F .fit))) own))
+      (agreed-parts (length t) number (map (F .fit) ds) ws (waitingOf flat) (omega (arith, x .eight, e8, length-map ds (F .fit))) own))
 
   -- the outputs of a round are as long as its queues'
   sums-just : JustAsLong (askedOf F ds c .sums) (map (λ q. q .sum) (queuesOf ws flat))
