@@ -1,7 +1,7 @@
 /*
- * The proved FM stereo core: pilot loop with stereo decision, summary of its periods, scan of the
- * pilot, matrix, multiplex encoders, oscillator, on-air verdict and RDS group former, in
- * libpescrondilu.a. x86-64 Linux, System V calls; C99 or C++.
+ * The proved FM stereo core: pilot loop with stereo decision, summary of its periods, rack of
+ * several decoders, scan of the pilot, matrix, multiplex encoders, oscillator, on-air verdict and
+ * RDS group former, in libpescrondilu.a. x86-64 Linux, System V calls; C99 or C++.
  *
  *     cc program.c -Iinclude -Ltarget/staticlib -lpescrondilu -lm
  *
@@ -18,8 +18,8 @@
  *
  * What the caller gets
  *   - Every call ends. Nothing is allocated, locked, or kept from one call to the next: all that a
- *     decoder, a summary, an encoder or a group former remembers is in its record, which the caller
- *     holds.
+ *     decoder, a summary, a rack, an encoder or a group former remembers is in its record, which
+ *     the caller holds.
  *   - Records go in and out by value. A call changes no record that it is handed; the next one
  *     comes back: d = pescrondilu_f32_reset(d);
  *   - Calls on different records may run on different threads, with one table for all of them.
@@ -58,10 +58,12 @@
  *   18   118   the value is outside Q14
  *   19   119   group: word three differs from word one, and bit 11 of word two is set
  *   20   120   summary: the period is 0, or the record was filled in by hand and is unfit
+ *   21   121   rack: the number of decoders is below 2 or above PESCRONDILU_RACK_PLACES
+ *   22   122   rack: the allowance is smaller than the number of decoders
  *
- *   What is left: a refused block or group gives its records back as they were (the switches as 0
- *   or 1) and writes to no output. A refused set call gives the record back as it was. A refused
- *   construction gives zeros.
+ *   What is left: a refused block, round or group gives its records back as they were (the switches
+ *   as 0 or 1) and writes to no output. A refused set call gives the record back as it was. A
+ *   refused construction gives zeros.
  */
 #ifndef PESCRONDILU_H
 #define PESCRONDILU_H
@@ -87,6 +89,9 @@ extern "C" {
 /* A code of 0 is accepted; this plus the number of the cause is refused. */
 #define PESCRONDILU_REFUSED 100
 
+/* The most decoders of a rack. */
+#define PESCRONDILU_RACK_PLACES 8
+
 /* The bits of an RDS group: four blocks, each of 16 bits of a word and 10 of its check. */
 #define PESCRONDILU_RDS_GROUP_BITS 104
 
@@ -94,8 +99,8 @@ extern "C" {
 #define PESCRONDILU_QUARTER_TURN UINT32_C(1073741824)
 
 /*
- * What a block or a group answers. At the causes 9, 10 and 11 expected is the length that was asked
- * for and got the one that was given; otherwise both are 0.
+ * What a block, a round or a group answers. At the causes 9, 10 and 11 expected is the length that
+ * was asked for and got the one that was given; otherwise both are 0.
  */
 typedef struct pescrondilu_answer {
     uint32_t code;
@@ -103,7 +108,7 @@ typedef struct pescrondilu_answer {
     size_t got;
 } pescrondilu_answer;
 
-/* ---- What a receiver calls: decoders, summary, scan, matrix, verdict ------------------------- */
+/* ---- What a receiver calls: decoders, summary, rack, scan, matrix, verdict ------------------- */
 
 /*
  * A decoder in float: the gains, the integrator, the lock level with its two thresholds, the step
@@ -346,6 +351,85 @@ pescrondilu_q15_summary_reply pescrondilu_q15_summary_block(
     size_t difference_n, uint32_t *PESCRONDILU_RESTRICT stereo, size_t stereo_n,
     uint32_t *PESCRONDILU_RESTRICT mono, size_t mono_n, uint32_t *PESCRONDILU_RESTRICT changes,
     size_t changes_n, int16_t *PESCRONDILU_RESTRICT magnitude, size_t magnitude_n);
+
+/*
+ * A rack: the decoders of several receivers in one box, which share a table and an allowance of
+ * samples. The first number of the places are in use. The caller puts each decoder there, and
+ * between two rounds may reset, enable, disable or replace it. The places past the number are given
+ * back as they were (the switches as 0 or 1); zeros will do.
+ */
+typedef struct pescrondilu_f32_rack {
+    pescrondilu_f32 decoders[PESCRONDILU_RACK_PLACES];
+    size_t number;
+} pescrondilu_f32_rack;
+
+typedef struct pescrondilu_q15_rack {
+    pescrondilu_q15 decoders[PESCRONDILU_RACK_PLACES];
+    size_t number;
+} pescrondilu_q15_rack;
+
+/* How long a decoder's part is of each of the four slices that all decoders of a rack share. */
+typedef struct pescrondilu_waiting {
+    size_t mpx;
+    size_t pilot;
+    size_t sum;
+    size_t difference;
+} pescrondilu_waiting;
+
+/* What waits for each decoder. The places past the rack's number are not looked at. */
+typedef struct pescrondilu_rack_waiting {
+    pescrondilu_waiting decoders[PESCRONDILU_RACK_PLACES];
+} pescrondilu_rack_waiting;
+
+/* What a round answers, how many samples each decoder took, and the rack after it. */
+typedef struct pescrondilu_f32_round {
+    pescrondilu_answer answer;
+    size_t taken[PESCRONDILU_RACK_PLACES];
+    pescrondilu_f32_rack rack;
+} pescrondilu_f32_round;
+
+typedef struct pescrondilu_q15_round {
+    pescrondilu_answer answer;
+    size_t taken[PESCRONDILU_RACK_PLACES];
+    pescrondilu_q15_rack rack;
+} pescrondilu_q15_round;
+
+/*
+ * A round of a rack. A decoder's share is allowance / rack.number, rounded down. Each decoder takes
+ * as many of the samples that wait for it, or all of them where fewer wait; the rest of the
+ * allowance lapses. Its outputs and its next record are those that pescrondilu_f32_block gives it
+ * alone, over the samples that it took. Its outputs past these are left. taken[k] is the number of
+ * samples that decoder k took, and 0 past the rack's number.
+ *
+ * mpx, pilot, sum and difference have the parts of all decoders, one behind the other: decoder k's
+ * part begins where that of the one before ends, and waiting.decoders[k] has its four lengths. A
+ * part that would pass the end of its slice is cut off there. So a slice that is too short shows as
+ * cause 10 or 11 of the first decoder that it cuts; where all four end at the same place of a
+ * decoder's part, the round is carried out with what is there.
+ *
+ * What a decoder leaves depends on its own record, its samples and its share alone, however busy
+ * the others are. The caller brings what was not taken again in the next round, from the first
+ * untaken sample on. While allowance and number stay the same, w samples that wait for a decoder
+ * are then all worked after w / share accepted rounds, rounded up, and its record is that of one
+ * block over the w samples.
+ *
+ * Causes 21; 22; then those of the first decoder, of the second, and so on: 9; 10 for pilot; 11 for
+ * sum, then for difference. The lengths are those of the decoder's part and not of its share, and
+ * they are asked for also where nothing waits. A refused round leaves all records and outputs, also
+ * those of the decoders before the one at fault, and taken is 0 everywhere.
+ */
+pescrondilu_f32_round pescrondilu_f32_rack_round(
+    pescrondilu_f32_rack rack, uint32_t allowance, pescrondilu_rack_waiting waiting,
+    const float *table, size_t table_n, const float *mpx, size_t mpx_n, const float *pilot,
+    size_t pilot_n, float *PESCRONDILU_RESTRICT sum, size_t sum_n,
+    float *PESCRONDILU_RESTRICT difference, size_t difference_n);
+
+/* The same in fixed point. Causes 21, 22; then of each decoder 0, then as in float. */
+pescrondilu_q15_round pescrondilu_q15_rack_round(
+    pescrondilu_q15_rack rack, uint32_t allowance, pescrondilu_rack_waiting waiting,
+    const int16_t *table, size_t table_n, const int16_t *mpx, size_t mpx_n, const int16_t *pilot,
+    size_t pilot_n, int16_t *PESCRONDILU_RESTRICT sum, size_t sum_n,
+    int16_t *PESCRONDILU_RESTRICT difference, size_t difference_n);
 
 /*
  * Scans a pilot from its end, as the float blocks of the fast way do themselves, for a caller that

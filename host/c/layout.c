@@ -97,6 +97,33 @@ FIELD(pescrondilu_q15_summary_reply, answer, 0);
 FIELD(pescrondilu_q15_summary_reply, decoder, 24);
 FIELD(pescrondilu_q15_summary_reply, summary, 104);
 
+SIZE(pescrondilu_f32_rack, 392);
+FIELD(pescrondilu_f32_rack, decoders, 0);
+FIELD(pescrondilu_f32_rack, number, 384);
+
+SIZE(pescrondilu_q15_rack, 648);
+FIELD(pescrondilu_q15_rack, decoders, 0);
+FIELD(pescrondilu_q15_rack, number, 640);
+
+SIZE(pescrondilu_waiting, 32);
+FIELD(pescrondilu_waiting, mpx, 0);
+FIELD(pescrondilu_waiting, pilot, 8);
+FIELD(pescrondilu_waiting, sum, 16);
+FIELD(pescrondilu_waiting, difference, 24);
+
+SIZE(pescrondilu_rack_waiting, 256);
+FIELD(pescrondilu_rack_waiting, decoders, 0);
+
+SIZE(pescrondilu_f32_round, 480);
+FIELD(pescrondilu_f32_round, answer, 0);
+FIELD(pescrondilu_f32_round, taken, 24);
+FIELD(pescrondilu_f32_round, rack, 88);
+
+SIZE(pescrondilu_q15_round, 736);
+FIELD(pescrondilu_q15_round, answer, 0);
+FIELD(pescrondilu_q15_round, taken, 24);
+FIELD(pescrondilu_q15_round, rack, 88);
+
 SIZE(pescrondilu_f32_scanned, 16);
 FIELD(pescrondilu_f32_scanned, finite, 0);
 FIELD(pescrondilu_f32_scanned, read, 8);

@@ -1,6 +1,6 @@
 /*
- * A receiver in C, from the multiplex to left and right, and what the library does with a wrong
- * call. From this folder, after host/library:
+ * A receiver in C, from the multiplex to left and right, several of them in a rack, and what the
+ * library does with a wrong call. From this folder, after host/library:
  *
  *     cc receiver.c -I../../include -L../../target/staticlib -lpescrondilu -lm
  *     ./a.out
@@ -20,6 +20,8 @@
 #define TOTAL 96000    /* half a second, a whole number of blocks */
 #define MEASURED 19200 /* the last 100 ms: whole periods of both tones */
 #define PERIOD 3840    /* 20 ms, of a summary */
+#define RECEIVERS 3    /* of a rack */
+#define ALLOWANCE 1502 /* samples of a round: 500 for each, and 2 lapse */
 #define LEFT_HZ 1000.0
 #define RIGHT_HZ 400.0
 #define TONE 0.3 /* so that left and right, three times the multiplex at most, stay in Q15 */
@@ -215,6 +217,60 @@ static void summarize(void)
     expect(stereo[0] == PERIOD && s.before == 1, "and stays on");
 }
 
+/*
+ * Three receivers in one box: a block waits for the first one, 700 samples for the second, nothing
+ * for the third. Each round is brought what was not taken before, one part behind the other.
+ */
+static void share(pescrondilu_f32 d)
+{
+    static const size_t brought[RECEIVERS] = {BLOCK, 700, 0};
+    static float m[BLOCK + 700], p[BLOCK + 700], sum[BLOCK + 700], difference[BLOCK + 700];
+    static float first[BLOCK], same[BLOCK], alone[BLOCK];
+    static pescrondilu_f32_rack rack;
+    static pescrondilu_rack_waiting waiting;
+    for (int k = 0; k < RECEIVERS; k++)
+        rack.decoders[k] = d;
+    rack.number = RECEIVERS;
+
+    size_t at[RECEIVERS] = {0, 0, 0};
+    unsigned rounds = 0;
+    for (; rounds < 9 && at[0] < brought[0]; rounds++) {
+        size_t n = 0;
+        for (int k = 0; k < RECEIVERS; k++) {
+            size_t w = brought[k] - at[k];
+            memcpy(m + n, mpx + at[k], w * sizeof *m);
+            memcpy(p + n, pilot + at[k], w * sizeof *p);
+            pescrondilu_waiting part = {w, w, w, w};
+            waiting.decoders[k] = part;
+            n += w;
+        }
+        pescrondilu_f32_round reply =
+            pescrondilu_f32_rack_round(rack, ALLOWANCE, waiting, table, PESCRONDILU_TABLE_LENGTH, m,
+                                       n, p, n, sum, n, difference, n);
+        expect(reply.answer.code == 0, "the round is accepted");
+        memcpy(first + at[0], difference, reply.taken[0] * sizeof *first);
+        for (int k = 0; k < RECEIVERS; k++)
+            at[k] += reply.taken[k];
+        rack = reply.rack;
+    }
+    printf("rack: %u rounds, %zu, %zu and %zu samples taken\n", rounds, at[0], at[1], at[2]);
+    expect(rounds == 4 && at[1] == 700, "1920 samples at 500 a round are worked in four");
+
+    pescrondilu_f32_reply reply =
+        pescrondilu_f32_block(d, table, PESCRONDILU_TABLE_LENGTH, mpx, BLOCK, pilot, BLOCK, same,
+                              BLOCK, alone, BLOCK);
+    expect(memcmp(&rack.decoders[0], &reply.decoder, sizeof d) == 0 &&
+               memcmp(first, alone, sizeof first) == 0 && alone[BLOCK - 1] != 0,
+           "record and difference are those of one block");
+    expect(memcmp(&rack.decoders[2], &d, sizeof d) == 0, "the third stays as it was");
+
+    pescrondilu_f32_round none =
+        pescrondilu_f32_rack_round(rack, RECEIVERS - 1, waiting, table, PESCRONDILU_TABLE_LENGTH, m,
+                                   0, p, 0, sum, 0, difference, 0);
+    printf("an allowance of 2 for 3: code %u\n", none.answer.code);
+    expect(none.answer.code == PESCRONDILU_REFUSED + 22, "the code is 122");
+}
+
 /* A block with a pilot one sample short is refused, and nothing changes. */
 static void refuse(pescrondilu_f32 d)
 {
@@ -287,6 +343,7 @@ int main(void)
     pescrondilu_f32 d = receive_f32();
     receive_q15();
     summarize();
+    share(d);
     refuse(d);
     use_switches(d);
     puts(wrong ? "not all is as expected" : "all is as expected");

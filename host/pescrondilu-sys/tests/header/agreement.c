@@ -15,7 +15,11 @@
 
 static uint64_t state = 2026;
 static unsigned kind;  /* 0: NaNs, 1: any bits, 2: the lists below, 3: numbers that compute */
-static unsigned fault; /* 4 to 7: which length is wrong; 1: the summary is of any bits */
+/*
+ * 4 to 7: which length is wrong. 1: the summary is of any bits, and so is a rack's number; 2: the
+ * allowance is too small; 3: what waits is of any bits; 0: the allowance is.
+ */
+static unsigned fault;
 
 static const uint64_t odd64[] = {
     UINT64_C(0x0000000000000000), UINT64_C(0x8000000000000000), UINT64_C(0x7fffffffffffffff),
@@ -179,6 +183,55 @@ static pescrondilu_q15_summary any_q15_summary(void)
     return s;
 }
 
+/* A rack of two to eight decoders, unless the fault is 1. */
+static size_t any_number(void)
+{
+    return fault == 1 ? (size_t)any64() : 2 + (size_t)(next() % 7);
+}
+
+static pescrondilu_f32_rack any_f32_rack(void)
+{
+    pescrondilu_f32_rack r;
+    for (int i = 0; i < PESCRONDILU_RACK_PLACES; i++)
+        r.decoders[i] = any_f32();
+    r.number = any_number();
+    return r;
+}
+
+static pescrondilu_q15_rack any_q15_rack(void)
+{
+    pescrondilu_q15_rack r;
+    for (int i = 0; i < PESCRONDILU_RACK_PLACES; i++)
+        r.decoders[i] = any_q15();
+    r.number = any_number();
+    return r;
+}
+
+/* A share of one to four samples and a rest, unless the fault is 0 or 2. */
+static uint32_t any_allowance(size_t number)
+{
+    if (fault < 2)
+        return any32();
+    uint32_t n = (uint32_t)number;
+    uint32_t share = fault == 2 ? 0 : 1 + (uint32_t)(next() % 4);
+    return n * share + (uint32_t)(next() % n);
+}
+
+/* One to four samples for each decoder, often more than there are, unless the fault is 3. */
+static pescrondilu_rack_waiting any_waiting(void)
+{
+    pescrondilu_rack_waiting r;
+    for (int i = 0; i < PESCRONDILU_RACK_PLACES; i++) {
+        size_t n = 1 + (size_t)(next() % 4);
+        pescrondilu_waiting *w = &r.decoders[i];
+        w->mpx = fault == 3 ? (size_t)any64() : n;
+        w->pilot = fault == 3 ? (size_t)any64() : n;
+        w->sum = fault == 3 ? (size_t)any64() : n;
+        w->difference = fault == 3 ? (size_t)any64() : n;
+    }
+    return r;
+}
+
 static pescrondilu_nco any_nco(void)
 {
     pescrondilu_nco o;
@@ -315,6 +368,26 @@ static void put_q15_summary(pescrondilu_q15_summary s)
     put32(s.changes);
     put16(s.magnitude);
     put32(s.before);
+}
+
+static void put_taken(const size_t *taken)
+{
+    for (int i = 0; i < PESCRONDILU_RACK_PLACES; i++)
+        put64(taken[i]);
+}
+
+static void put_f32_rack(pescrondilu_f32_rack r)
+{
+    for (int i = 0; i < PESCRONDILU_RACK_PLACES; i++)
+        put_f32(r.decoders[i]);
+    put64(r.number);
+}
+
+static void put_q15_rack(pescrondilu_q15_rack r)
+{
+    for (int i = 0; i < PESCRONDILU_RACK_PLACES; i++)
+        put_q15(r.decoders[i]);
+    put64(r.number);
 }
 
 static void put_readout(pescrondilu_readout r)
@@ -597,6 +670,32 @@ static void decoders(void)
         put_q15_summary(r.summary);
         put_outputs();
         put_columns();
+    })
+    EACH(pescrondilu_f32_rack_round, {
+        fill();
+        pescrondilu_f32_rack rack = any_f32_rack();
+        uint32_t allowance = any_allowance(rack.number);
+        pescrondilu_rack_waiting waiting = any_waiting();
+        pescrondilu_f32_round r = pescrondilu_f32_rack_round(
+            rack, allowance, waiting, table, TABLE_N, in1, N, in2, length(N, 5), out1, length(N, 6),
+            out2, length(N, 7));
+        put_answer(r.answer);
+        put_taken(r.taken);
+        put_f32_rack(r.rack);
+        put_outputs();
+    })
+    EACH(pescrondilu_q15_rack_round, {
+        fill();
+        pescrondilu_q15_rack rack = any_q15_rack();
+        uint32_t allowance = any_allowance(rack.number);
+        pescrondilu_rack_waiting waiting = any_waiting();
+        pescrondilu_q15_round r = pescrondilu_q15_rack_round(
+            rack, allowance, waiting, table_q, TABLE_N, in1_q, N, in2_q, length(N, 5), out1_q,
+            length(N, 6), out2_q, length(N, 7));
+        put_answer(r.answer);
+        put_taken(r.taken);
+        put_q15_rack(r.rack);
+        put_outputs();
     })
     EACH(pescrondilu_f32_scan, {
         fill();

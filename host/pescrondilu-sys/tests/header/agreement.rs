@@ -7,6 +7,7 @@ use pescrondilu_sys::Code;
 use pescrondilu_sys::decoder::*;
 use pescrondilu_sys::encoder::*;
 use pescrondilu_sys::numbers::*;
+use pescrondilu_sys::rack::*;
 use pescrondilu_sys::rds::*;
 use pescrondilu_sys::summary::*;
 use std::collections::{BTreeMap, BTreeSet};
@@ -293,6 +294,45 @@ impl Calls {
         self.any_summary(some, Calls::any16)
     }
 
+    /// A rack of two to eight decoders, unless the fault is 1.
+    fn any_rack<V: Copy>(&mut self, any: fn(&mut Calls) -> Decoder<V>) -> Rack<V> {
+        let decoders = [(); PLACES].map(|()| any(self));
+        let number = match self.fault {
+            1 => self.any64() as usize,
+            _ => 2 + self.below(7) as usize,
+        };
+        Rack { decoders, number }
+    }
+
+    fn any_allowance(&mut self, number: usize) -> u32 {
+        if self.fault < 2 {
+            return self.any32();
+        }
+        let n = number as u32;
+        let share = match self.fault {
+            2 => 0,
+            _ => 1 + self.below(4),
+        };
+        n * share + self.below(n)
+    }
+
+    fn any_waiting(&mut self) -> RackWaiting {
+        let decoders = [(); PLACES].map(|()| {
+            let n = 1 + self.below(4) as usize;
+            let [mpx, pilot, sum, difference] = [(); 4].map(|()| match self.fault {
+                3 => self.any64() as usize,
+                _ => n,
+            });
+            Waiting {
+                mpx,
+                pilot,
+                sum,
+                difference,
+            }
+        });
+        RackWaiting { decoders }
+    }
+
     fn any_nco(&mut self) -> Nco {
         Nco {
             phase: self.any32(),
@@ -453,6 +493,18 @@ impl Calls {
         self.put32(s.changes);
         put(self, s.magnitude);
         self.put32(s.before);
+    }
+
+    fn put_round<V: Copy>(&mut self, r: Round<V>, put: fn(&mut Calls, Decoder<V>)) {
+        self.put_answer(r.answer);
+        for n in r.taken {
+            self.put64(n as u64);
+        }
+        for d in r.rack.decoders {
+            put(self, d);
+        }
+        self.put64(r.rack.number as u64);
+        self.put_outputs();
     }
 
     fn put_readout(&mut self, r: Readout) {
@@ -653,6 +705,56 @@ impl Calls {
         self.put_columns();
     }
 
+    fn f32_rack_round(&mut self) {
+        self.fill();
+        let rack = self.any_rack(Calls::any_f32);
+        let allowance = self.any_allowance(rack.number);
+        let waiting = self.any_waiting();
+        let r = unsafe {
+            pescrondilu_f32_rack_round(
+                rack,
+                allowance,
+                waiting,
+                self.table.as_ptr(),
+                self.table_n(),
+                self.in1.as_ptr(),
+                N,
+                self.in2.as_ptr(),
+                self.length(N, 5),
+                self.out1.as_mut_ptr(),
+                self.length(N, 6),
+                self.out2.as_mut_ptr(),
+                self.length(N, 7),
+            )
+        };
+        self.put_round(r, Calls::put_f32);
+    }
+
+    fn q15_rack_round(&mut self) {
+        self.fill();
+        let rack = self.any_rack(Calls::any_q15);
+        let allowance = self.any_allowance(rack.number);
+        let waiting = self.any_waiting();
+        let r = unsafe {
+            pescrondilu_q15_rack_round(
+                rack,
+                allowance,
+                waiting,
+                self.table_q.as_ptr(),
+                self.table_n(),
+                self.in1_q.as_ptr(),
+                N,
+                self.in2_q.as_ptr(),
+                self.length(N, 5),
+                self.out1_q.as_mut_ptr(),
+                self.length(N, 6),
+                self.out2_q.as_mut_ptr(),
+                self.length(N, 7),
+            )
+        };
+        self.put_round(r, Calls::put_q15);
+    }
+
     fn f32_scan(&mut self) {
         self.fill();
         let s = unsafe { pescrondilu_f32_scan(self.in1.as_ptr(), self.length(N, 5)) };
@@ -829,6 +931,8 @@ impl Calls {
         });
         self.each("pescrondilu_f32_summary_block", Calls::f32_summary_block);
         self.each("pescrondilu_q15_summary_block", Calls::q15_summary_block);
+        self.each("pescrondilu_f32_rack_round", Calls::f32_rack_round);
+        self.each("pescrondilu_q15_rack_round", Calls::q15_rack_round);
         self.each("pescrondilu_f32_scan", Calls::f32_scan);
         self.each("pescrondilu_matrix_f32", Calls::matrix_f32);
         self.each("pescrondilu_matrix_q15", Calls::matrix_q15);
@@ -1113,6 +1217,8 @@ fn the_calls_cover_the_library() {
             "pescrondilu_q15_summary_block" => &[0, 100, 109, 110, 111, 120],
             // it answers no code: its first word is the period
             "pescrondilu_f32_summary_new" | "pescrondilu_q15_summary_new" => continue,
+            "pescrondilu_f32_rack_round" => &[0, 109, 110, 111, 121, 122],
+            "pescrondilu_q15_rack_round" => &[0, 100, 109, 110, 111, 121, 122],
             "pescrondilu_matrix_f32" | "pescrondilu_matrix_q15" => &[0, 110, 111],
             _ if name.ends_with("_block") => &[0, 109, 110, 111],
             "pescrondilu_encode_set_pilot" | "pescrondilu_encode_rds_set_pilot" => &[0, 114],

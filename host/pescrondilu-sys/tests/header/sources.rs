@@ -36,7 +36,7 @@ impl Declared {
 }
 
 /// A struct in C, in Rattle and in Rust.
-pub const STRUCTS: [(&str, &str, &str); 27] = [
+pub const STRUCTS: [(&str, &str, &str); 33] = [
     ("pescrondilu_answer", "Code", "Code"),
     ("pescrondilu_f32", "DecoderF32", "Decoder<f32>"),
     ("pescrondilu_q15", "DecoderQ15", "Decoder<i64>"),
@@ -65,6 +65,12 @@ pub const STRUCTS: [(&str, &str, &str); 27] = [
         "SummaryReplyQ15",
         "SummaryReply<i64,i16>",
     ),
+    ("pescrondilu_f32_rack", "RackF32", "Rack<f32>"),
+    ("pescrondilu_q15_rack", "RackQ15", "Rack<i64>"),
+    ("pescrondilu_waiting", "Waiting", "Waiting"),
+    ("pescrondilu_rack_waiting", "RackWaiting", "RackWaiting"),
+    ("pescrondilu_f32_round", "RoundF32", "Round<f32>"),
+    ("pescrondilu_q15_round", "RoundQ15", "Round<i64>"),
     ("pescrondilu_f32_scanned", "ScannedF32", "Scanned"),
     ("pescrondilu_nco", "Nco", "Nco"),
     ("pescrondilu_increment", "CodedIncrement", "CodedIncrement"),
@@ -107,8 +113,12 @@ const SCALARS: [(&str, &str); 10] = [
     ("bool", "bool"),
 ];
 
-/// A Rust or Rattle type that is no pointer, in C.
+/// A Rust or Rattle type that is no pointer, in C. An array is its element and its length.
 fn in_c(name: &str) -> String {
+    if let Some(inner) = name.strip_prefix('[').and_then(|n| n.strip_suffix(']')) {
+        let (element, n) = inner.split_once(';').expect("an array has a length");
+        return array(&in_c(element), n);
+    }
     let scalar = SCALARS.iter().find(|(here, _)| *here == name);
     let known = STRUCTS
         .iter()
@@ -118,6 +128,17 @@ fn in_c(name: &str) -> String {
         (_, Some((c, _, _))) => c.to_string(),
         _ => panic!("the type {name} has no counterpart in C"),
     }
+}
+
+/// The lengths of arrays that have a name: in C, in Rust, and their number in Rattle.
+const LENGTHS: [(&str, &str, &str); 1] = [("PESCRONDILU_RACK_PLACES", "PLACES", "8")];
+
+/// An array in C, with its length as a number.
+fn array(element: &str, n: &str) -> String {
+    let named = LENGTHS.iter().find(|(c, rust, _)| *c == n || *rust == n);
+    let number = named.map_or(n, |(_, _, number)| number);
+    assert!(number.parse::<usize>().is_ok(), "{n} is not known");
+    format!("{element} [{number}]")
 }
 
 /// What a length is called says nothing: it is the length of the pointer before it.
@@ -195,6 +216,10 @@ pub fn header() -> Declared {
         rest = after.split_once("*/").expect("a comment ends").1;
     }
     code.push_str(rest);
+    for (name, _, number) in LENGTHS {
+        let line = format!("#define {name} {number}");
+        assert!(code.lines().any(|l| l == line), "no line {line}");
+    }
     let lines = code.lines().filter(|line| !line.starts_with('#'));
     let all = words(&lines.collect::<Vec<_>>().join("\n"));
 
@@ -236,8 +261,14 @@ fn c_parameters(words: &[String]) -> Vec<Named> {
     parts(words).into_iter().map(c_named).collect()
 }
 
-/// A declaration's name, which is its last word, and its type.
+/// A declaration's name, which is its last word, or for an array the word before its length, and
+/// its type.
 fn c_named(words: &[String]) -> Named {
+    if let [kind @ .., name, open, n, close] = words
+        && (open == "[" && close == "]")
+    {
+        return (name.clone(), array(&kind.join(" "), n));
+    }
     let (name, kind) = words.split_last().expect("a declaration has words");
     (name.clone(), kind.join(" "))
 }
@@ -344,6 +375,7 @@ pub fn rust_text() -> String {
         "decoder.rs",
         "encoder.rs",
         "numbers.rs",
+        "rack.rs",
         "rds.rs",
         "summary.rs",
     ];
@@ -355,6 +387,10 @@ pub fn rust_text() -> String {
     let folder = root().join("host/pescrondilu-sys/src");
     let there = fs::read_dir(folder).expect("src/ can be read").count();
     assert_eq!(there, files.len(), "a file of src/ is not read here");
+    for (_, name, number) in LENGTHS {
+        let line = format!("pub const {name}: usize = {number};");
+        assert!(text.lines().any(|l| l == line), "no line {line}");
+    }
     text
 }
 
