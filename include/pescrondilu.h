@@ -5,7 +5,8 @@
  *
  *     cc program.c -Iinclude -Ltarget/staticlib -lpescrondilu -lm
  *
- * (The library needs no other one; -lm is for a program that makes its table by cos.)
+ * (The library needs the C library's memcpy and nothing else; -lm is for a program that makes its
+ * table by cos.)
  * host/c/receiver.c is an example.
  *
  * What the caller owes

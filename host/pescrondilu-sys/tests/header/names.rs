@@ -37,8 +37,8 @@ fn rust_and_rattle_have_the_same_functions() {
     same("pescrondilu-sys as read", &rust, "all of its text", &all);
 }
 
-/// And the archive has no other global name, none twice, asks for none, and has no data that a
-/// call could change.
+/// And the archive has no other global name, none twice, asks for none but memcpy, and has no data
+/// that a call could change.
 #[test]
 fn archive_and_header_have_the_same_functions() {
     let Some(nm) = tool("NM", "nm", "the names of the archive") else {
@@ -52,6 +52,8 @@ fn archive_and_header_have_the_same_functions() {
             [_, "T", name] => assert!(found.insert(name.to_string()), "{name} is there twice"),
             // what is local to an object: code and constants, and no data that a call could change
             [_, "t" | "r", _] => {}
+            // of the C library: a round copies what waits by it
+            ["U", "memcpy"] => {}
             // a heading with the object's name
             [] => {}
             [object] if object.ends_with(".o:") => {}
