@@ -19,6 +19,18 @@ pub struct Waiting {
 
 layout!(Waiting, 32, mpx 0, pilot 8, sum 16, difference 24);
 
+impl Waiting {
+    /// So many samples, with room for their sum and difference.
+    pub const fn samples(n: usize) -> Waiting {
+        Waiting {
+            mpx: n,
+            pilot: n,
+            sum: n,
+            difference: n,
+        }
+    }
+}
+
 /// What waits for each decoder; the places past the number are not read.
 #[repr(C)]
 #[derive(Clone, Copy, Debug, Default, PartialEq, Eq)]

@@ -75,6 +75,8 @@ impl Refusal {
             18 => "the value does not fit Q14",
             19 => "word three of the group differs from word one, and bit 11 of word two is set",
             20 => "the summary's period is 0, or a field of its record is out of its range",
+            21 => "the number of the rack's decoders is not from 2 to 8",
+            22 => "the allowance is smaller than the number of the rack's decoders",
             _ => UNKNOWN,
         }
     }
@@ -153,7 +155,7 @@ impl From<Refusal> for Error {
             Refusal { expected, got, .. } if refusal.has_lengths() => {
                 Error::LengthMismatch { expected, got }
             }
-            Refusal { number: 0..=20, .. } => Error::InvalidParameter(refusal.message()),
+            Refusal { number: 0..=22, .. } => Error::InvalidParameter(refusal.message()),
             _ => Error::Internal(refusal.message()),
         }
     }

@@ -1,14 +1,14 @@
 //! The proved FM stereo core as a safe Rust crate, under the names of the crate `sdrk_core`.
 //!
-//! The pilot loop with its stereo decision, the summary of its periods, the scan of the pilot, the
-//! matrix, the multiplex encoders, the oscillator, the on-air verdict and the RDS group former are
-//! calls of a static library that is written in Rattle, where every function is proved for every
-//! input. This crate adds what C cannot have: slices, types, errors, and the cosine tables that the
-//! library wants lent.
+//! The pilot loop with its stereo decision, the summary of its periods, the rack of several loops,
+//! the scan of the pilot, the matrix, the multiplex encoders, the oscillator, the on-air verdict
+//! and the RDS group former are calls of a static library that is written in Rattle, where every
+//! function is proved for every input. This crate adds what C cannot have: slices, types, errors,
+//! and the cosine tables that the library wants lent.
 //!
 //! | Module | Has |
 //! |---|---|
-//! | [`kernels::stereo`] | pilot loop, its summary, scan of the pilot, matrix, encoders, verdict |
+//! | [`kernels::stereo`] | pilot loop, its summary, rack, scan, matrix, encoders, verdict |
 //! | [`kernels::mix`] | oscillator |
 //! | [`kernels::rds`] | RDS groups |
 //! | [`num`] | number helpers |

@@ -6,7 +6,8 @@
 use core::fmt::Debug;
 use core::slice::{from_raw_parts, from_raw_parts_mut};
 
-use pescrondilu_sys::summary::Summed as CoreSample;
+use pescrondilu_sys::rack::Racked;
+use pescrondilu_sys::summary::Summed;
 
 use crate::{num, tables};
 
@@ -228,7 +229,7 @@ pub trait RealSample: Sample {
     type Value: Copy + Debug + PartialEq + Send + Sync + 'static;
     /// The sample as the core has it.
     #[doc(hidden)]
-    type Raw: CoreSample<Value = Self::Value>;
+    type Raw: Summed<Value = Self::Value> + Racked;
 
     /// The value, exactly.
     fn to_f64(self) -> f64;

@@ -107,7 +107,7 @@ impl StereoPllCoefficients {
 /// ```
 #[derive(Clone, Copy, Debug, PartialEq)]
 pub struct StereoPllState<T: RealSample> {
-    /// The summary's calls change it too.
+    /// The calls of the summary and of the rack change it too.
     pub(super) record: Decoder<T::Value>,
     coefficients: StereoPllCoefficients,
 }
