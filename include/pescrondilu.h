@@ -397,7 +397,7 @@ typedef struct pescrondilu_q15_round {
 
 /*
  * A round of a rack. A decoder's share is allowance / rack.number, rounded down. Each decoder takes
- * as many of the samples that wait for it, or all of them where fewer wait; the rest of the
+ * that many of the samples that wait for it, or all of them where fewer wait; the rest of the
  * allowance lapses. Its outputs and its next record are those that pescrondilu_f32_block gives it
  * alone, over the samples that it took. Its outputs past these are left. taken[k] is the number of
  * samples that decoder k took, and 0 past the rack's number.

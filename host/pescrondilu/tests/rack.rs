@@ -239,16 +239,18 @@ fn the_others_make_no_difference() {
     fn check<T: Format>() {
         let mut random = Random(11);
         let own: Queue<T> = queues(&mut random, &[90]).remove(0);
-        let mut alone = one::<T>(3);
+        let own_decoder = one::<T>(3);
+        let mut alone = own_decoder;
         let [mut sum, mut difference] = [(); 2].map(|()| vec![T::LEFT; 70]);
         alone
             .process(&own.0[..70], &own.1[..70], &mut sum, &mut difference)
             .expect("equal lengths");
         for number in 2..=RACK_PLACES {
+            let start = rack::<T>(number);
             for place in 0..number {
                 for busy in [0, 1, 69, 200] {
-                    let mut rack = rack::<T>(number);
-                    rack.decoders_mut()[place] = one(3);
+                    let mut rack = start;
+                    rack.decoders_mut()[place] = own_decoder;
                     let mut all = queues(&mut random, &vec![busy; number]);
                     all[place] = own.clone();
                     // the share is 70
