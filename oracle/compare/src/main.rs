@@ -11,6 +11,7 @@
 //!     compare rds [N]       every block of 26 bits, and N sessions of each kind of the group
 //!                           former (200000)
 //!     compare summary [N]   the summary beside the pairs: N sessions of each kind (100000)
+//!     compare rack [N]      a round of a rack of decoders: N sessions of rounds (150000)
 //!     compare every         every input of each function whose arguments have 32 bits in all
 //!     compare every-stereo  every f32 of the corrections, of the scan and of the verdict, every
 //!                           pair of the Q15 matrix
@@ -19,8 +20,10 @@ mod decoder;
 mod encoder;
 mod numbers;
 mod part;
+mod rack;
 mod rds;
 mod record;
+mod room;
 mod scan;
 mod sessions;
 mod stereo;
@@ -138,8 +141,8 @@ fn helpers(compare: impl Fn(&'static Function) -> bool) -> bool {
 
 fn usage() -> ! {
     eprintln!(
-        "usage: compare [numbers [N] | stereo [N] | decoder [N] | rds [N] | summary [N] | every | \
-         every-stereo]"
+        "usage: compare [numbers [N] | stereo [N] | decoder [N] | rds [N] | summary [N] | \
+         rack [N] | every | every-stereo]"
     );
     std::process::exit(2);
 }
@@ -160,13 +163,15 @@ fn main() {
     };
     let rds = || rds::compare(count.unwrap_or(200_000));
     let summary = || summary::compare(count.unwrap_or(100_000));
+    let rack = || rack::compare(count.unwrap_or(150_000));
     let equal = match what.as_deref() {
-        None => helpers(some) & stereo() & decoder() & rds() & summary(),
+        None => helpers(some) & stereo() & decoder() & rds() & summary() & rack(),
         Some("numbers") => helpers(some),
         Some("stereo") => stereo(),
         Some("decoder") => decoder(),
         Some("rds") => rds(),
         Some("summary") => summary(),
+        Some("rack") => rack(),
         Some("every") => helpers(compare_every),
         Some("every-stereo") => {
             stereo::every_correction()

@@ -33,9 +33,21 @@ pub struct Part {
     pub several: u64,
     // summary calls that the length of one of the four further outputs refused
     pub by_column: u64,
+    // lists of rounds of a rack, and the decoders that accepted rounds had
+    pub sessions: u64,
+    pub blocks: u64,
+    // accepted rounds after which some decoder has samples left, in which one has none, and in which
+    // a part is cut off
+    pub unfinished: u64,
+    pub empty: u64,
+    pub cut: u64,
+    // rounds that a decoder's cause refused, by its place
+    pub at: [u64; 8],
     // how many of our answers are a refusal, by its number
     refused: BTreeMap<u64, u64>,
     differences: u64,
+    // the cases up to the first difference
+    first: u64,
     // the smallest call that differed, by its size
     smallest: Option<(usize, String)>,
 }
@@ -57,8 +69,15 @@ impl Part {
             changes: 0,
             several: 0,
             by_column: 0,
+            sessions: 0,
+            blocks: 0,
+            unfinished: 0,
+            empty: 0,
+            cut: 0,
+            at: [0; 8],
             refused: BTreeMap::new(),
             differences: 0,
+            first: 0,
             smallest: None,
         }
     }
@@ -92,6 +111,9 @@ impl Part {
     /// A difference of which the smallest is printed at the end.
     pub fn differ_in(&mut self, size: usize, text: String) {
         self.differences += 1;
+        if self.differences == 1 {
+            self.first = self.cases;
+        }
         if self
             .smallest
             .as_ref()
@@ -132,6 +154,12 @@ impl Part {
         if self.samples > 0 {
             print!(" of {} samples", self.samples);
         }
+        if self.sessions > 0 {
+            print!(" in {} sessions", self.sessions);
+        }
+        if self.blocks > 0 {
+            print!(", {} blocks of decoders", self.blocks);
+        }
         if self.merged > 0 {
             print!(", {} merged blocks", self.merged);
         }
@@ -140,6 +168,18 @@ impl Part {
             if *number == 11 && self.by_column > 0 {
                 print!(" ({} by a column)", self.by_column);
             }
+        }
+        if self.at.iter().sum::<u64>() > 0 {
+            print!(", by decoders' places {:?}", self.at);
+        }
+        if self.unfinished > 0 {
+            print!(", {} with samples left", self.unfinished);
+        }
+        if self.empty > 0 {
+            print!(", {} with an empty wait", self.empty);
+        }
+        if self.cut > 0 {
+            print!(", {} with a part cut off", self.cut);
         }
         if self.stereo > 0 {
             print!(", {} in stereo", self.stereo);
@@ -167,6 +207,7 @@ impl Part {
         }
         println!(", {} differences", self.differences);
         if let Some((_, text)) = &self.smallest {
+            println!("{}: the first in case {}", self.name, self.first);
             println!("{}: the smallest call: {text}", self.name);
         }
         self.differences == 0

@@ -3,13 +3,14 @@
 use decoder_oracle::answers::{Arguments, Block, Call, Format, Outcome, Outputs, output_words};
 use numbers_oracle::answers::word_f64;
 use pescrondilu_sys::decoder::{self, Decoder, Sample, Way};
+use pescrondilu_sys::rack::Racked;
 use pescrondilu_sys::summary::{Summary, Summed, summary_block};
 use sdrk_core::probe::Fields;
 use sdrk_core::types::Q15;
 use stereo_oracle::answers::{ACCEPTED, Said};
 
 /// A format that our library has.
-pub trait Ours: Format<Sample: Summed<Value = Self::Value>> {}
+pub trait Ours: Format<Sample: Summed<Value = Self::Value> + Racked<Value = Self::Value>> {}
 
 impl Ours for f32 {}
 impl Ours for Q15 {}
@@ -23,7 +24,7 @@ pub struct Columns<'a, S> {
 }
 
 #[derive(Clone, Copy)]
-pub struct Record<F: Ours>(Decoder<F::Value>);
+pub struct Record<F: Ours>(pub Decoder<F::Value>);
 
 impl<F: Ours> Record<F> {
     /// `on` stands for a switch that is on.

@@ -1,12 +1,12 @@
 //! The summary beside the pairs. The original has none, so a model answers: the original's plain
 //! decoder runs sample by sample, and the figures are worked out from that history afterwards.
 
-mod inputs;
+pub mod inputs;
 mod model;
 
 use std::fmt::Debug;
 
-use decoder_oracle::answers::{self, Block, Call, Outcome, field_words};
+use decoder_oracle::answers::{self, Block, Call, Format, Outcome, field_words};
 use pescrondilu_sys::decoder::Way;
 use pescrondilu_sys::summary::{Summary, Summed};
 use sdrk_core::kernels::stereo::StereoPllState;
@@ -17,6 +17,7 @@ use stereo_oracle::inputs::{Inputs, one};
 
 use crate::part::Part;
 use crate::record::{Columns, Ours, Record};
+use crate::room::{GUARD, Room};
 use inputs::{Asked, Tables, Varied, word_at};
 use model::{Figures, Model, Sample};
 
@@ -24,28 +25,6 @@ trait Compared: Ours + Varied {}
 
 impl Compared for f32 {}
 impl Compared for Q15 {}
-
-/// Places on either side of each output, which no call may write.
-const GUARD: usize = 2;
-
-/// An output inside a larger room.
-struct Room<T>(Vec<T>);
-
-impl<T: Copy> Room<T> {
-    /// The places hold a pattern before the call, and `output` where it is given.
-    fn new(n: usize, output: Option<&[T]>, pattern: impl Fn(usize) -> T) -> Self {
-        let mut places: Vec<T> = (0..n + 2 * GUARD).map(pattern).collect();
-        if let Some(output) = output {
-            places[GUARD..GUARD + n].copy_from_slice(output);
-        }
-        Room(places)
-    }
-
-    fn get_mut(&mut self) -> &mut [T] {
-        let end = self.0.len() - GUARD;
-        &mut self.0[GUARD..end]
-    }
-}
 
 /// The six outputs of a call.
 struct Rooms<S> {
@@ -149,21 +128,12 @@ fn difference(expected: &Left, got: &Left, guard: usize) -> String {
     "nowhere".into()
 }
 
-/// The side that takes the record.
-fn side<F: Compared>(f: &Fields<F::Value>) -> Side {
-    if F::takes(Side::Reference, f) {
-        Side::Reference
-    } else {
-        Side::Fallback
-    }
-}
-
 /// The raw history of an accepted block, in blocks of one sample, and the state after it.
 fn history<F: Compared>(
     mut state: StereoPllState<F>,
     b: &Block<F::Sample>,
 ) -> (Vec<Sample<F::Sample>>, StereoPllState<F>) {
-    let side = side::<F>(&F::fields(&state));
+    let side = answers::side::<F>(&F::fields(&state));
     let mut samples = Vec::new();
     for (x, p) in b.mpx.iter().zip(&b.pilot) {
         let (answer, pairs) = F::run(side, &mut state, &b.table, &[*x], &[*p], 1);
@@ -177,7 +147,7 @@ fn history<F: Compared>(
 }
 
 /// Samples of a failing call, in words.
-fn bits<F: Compared>(samples: &[F::Sample]) -> String {
+pub fn bits<F: Format>(samples: &[F::Sample]) -> String {
     let words: Vec<u64> = samples.iter().take(8).map(|x| F::word_sample(*x)).collect();
     format!("{} of {words:x?}", samples.len())
 }
@@ -242,7 +212,7 @@ impl<'a, F: Compared> Session<'a, F> {
         let outcome = match call.block() {
             Some(b) if !F::is_fit(&fields) => answers::unfit::<F>(fields, b),
             _ => {
-                let side = side::<F>(&fields);
+                let side = answers::side::<F>(&fields);
                 self.part.alone += (call.block().is_some() && side == Side::Fallback) as u64;
                 answers::call(side, &mut next, call)
             }
@@ -484,11 +454,11 @@ fn order<F: Compared>(name: &'static str) -> bool {
     for set in 0..1u64 << 10 {
         let is_in = |k: u64| (set >> k & 1) as usize;
         let unfit = match is_in(1) {
-            1 => found::<F>(&mut r, |f| !F::is_fit(f)),
+            1 => inputs::found::<F>(&mut r, |f| !F::is_fit(f)),
             _ => None,
         };
         let fields = unfit
-            .or_else(|| found::<F>(&mut r, |f| F::takes(Side::Reference, f)))
+            .or_else(|| inputs::found::<F>(&mut r, |f| F::takes(Side::Reference, f)))
             .expect("some record is taken");
         let n = 3;
         // two periods end
@@ -517,14 +487,6 @@ fn order<F: Compared>(name: &'static str) -> bool {
         session.ask(&a);
     }
     part.report()
-}
-
-/// A decoder of a kind, if the format has any.
-fn found<F: Compared>(
-    r: &mut Inputs,
-    is: impl Fn(&Fields<F::Value>) -> bool,
-) -> Option<Fields<F::Value>> {
-    (0..1000).map(|_| F::any_fields(r)).find(is)
 }
 
 // ---- other cuts

@@ -348,6 +348,24 @@ fn lengths<F: Format>(side: Side, state: &StereoPllState<F>, b: &Block<F::Sample
     ACCEPTED
 }
 
+/// The side that takes the record.
+pub fn side<F: Format>(f: &Fields<F::Value>) -> Side {
+    if F::takes(Side::Reference, f) {
+        Side::Reference
+    } else {
+        Side::Fallback
+    }
+}
+
+/// What a block answers before it is carried out: cause 0 and the length rule.
+pub fn refusal<F: Format>(state: &StereoPllState<F>, b: &Block<F::Sample>) -> Said {
+    let fields = F::fields(state);
+    if !F::is_fit(&fields) {
+        return UNFIT;
+    }
+    lengths(side::<F>(&fields), state, b)
+}
+
 /// What a block answers, and its outputs as it leaves them: what `given` makes of its pairs.
 fn block<F: Format>(
     side: Side,
@@ -402,11 +420,14 @@ pub fn call<F: Format>(
     }
 }
 
+/// The answer to an unfit record.
+const UNFIT: Said = [100, 0, 0];
+
 /// A block of either sort on an unfit record, by the document: cause 0, and nothing changes.
 pub fn unfit<F: Format>(fields: Fields<F::Value>, b: &Block<F::Sample>) -> Outcome {
     let state = F::state(fields);
     Outcome {
-        said: [100, 0, 0],
+        said: UNFIT,
         outputs: output_words::<F>(&b.outputs),
         fields: field_words::<F>(&fields),
         reads: read_words(&state),

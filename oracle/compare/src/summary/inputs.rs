@@ -190,6 +190,14 @@ pub fn decoder<F: Varied>(r: &mut Inputs) -> Fields<F::Value> {
     }
 }
 
+/// A decoder of a kind, if the format has any.
+pub fn found<F: Drawn>(
+    r: &mut Inputs,
+    is: impl Fn(&Fields<F::Value>) -> bool,
+) -> Option<Fields<F::Value>> {
+    (0..1000).map(|_| F::any_fields(r)).find(is)
+}
+
 /// Tables that many sessions share, since one takes longer to make than a call. They are longer
 /// than a block's, so that a block can have too long a one.
 pub struct Tables<F: Varied>(Vec<Vec<F::Sample>>);
