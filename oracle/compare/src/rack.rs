@@ -181,6 +181,8 @@ impl<'a, F: Compared> Session<'a, F> {
         let (answer, expected) = self.expected(a);
         let got = self.got(a);
         self.calls += 1;
+        self.part.cases += 1;
+        self.part.said(got.said);
         self.count(a, &answer, &before);
         if got != expected {
             let text = self.text(a, &before, &difference(&expected, &got));
@@ -193,10 +195,9 @@ impl<'a, F: Compared> Session<'a, F> {
         true
     }
 
+    /// What the round has of each sort, by the model.
     fn count(&mut self, a: &Asked<F::Sample>, answer: &Answer, before: &[StereoPllState<F>]) {
         let part = &mut *self.part;
-        part.cases += 1;
-        part.said(answer.said);
         if let Some(k) = answer.refused {
             part.at[k] += 1;
         }
@@ -397,8 +398,9 @@ const FIRST: [(usize, u32); 8] = [
     (1, 0),
 ];
 
-/// Each set of causes in force together in a rack of three: of the round, the table and each
-/// decoder. Then, in a rack of eight, each two causes at each two places, with and without samples.
+/// Each set of causes of the table and the decoders in a rack of three, half of the rounds with a
+/// number and an allowance of the list above. Then, in a rack of eight, each two causes of decoders
+/// at each two places, with and without samples.
 fn order<F: Compared>(name: &'static str) -> bool {
     let mut r = Inputs::new(52);
     let mut part = Part::new(name);

@@ -87,7 +87,8 @@ fn allowance(r: &mut Inputs, number: usize, waits: &[usize]) -> u32 {
         0 => r.below(n),
         1 => near(r, n),
         2 => u32::MAX as u64 - r.below(2),
-        3 => r.u32() as u64,
+        // large, with small lower bits
+        3 => (r.u32() as u64 & !0xFFFF) + r.below(20 * n),
         4 | 5 => near(r, n * longest),
         6 | 7 => near(r, all),
         8..=15 => n * (1 + r.below(6)) + r.below(n),
