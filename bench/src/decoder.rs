@@ -1,14 +1,16 @@
 //! How long our decoder's blocks take beside the original's: the fast one beside `Fallback`, the
 //! plain one beside `Reference`, the merged one beside `Fallback`'s block and then its matrix, the
-//! one with its summaries beside `Fallback`'s block.
+//! one with its summaries beside `Fallback`'s block, a round of a rack beside `Fallback`'s blocks.
 
 #[cfg(before)]
 pub mod before;
+pub mod rack;
 pub mod summary;
 
 use std::hint::black_box;
 
 use pescrondilu_sys::decoder::{self, Decoder, Way};
+use pescrondilu_sys::rack::Racked;
 use pescrondilu_sys::summary::Summed;
 use sdrk_core::error::Error;
 use sdrk_core::kernels::stereo::{StereoMatrix, StereoPll, StereoPllState, hand};
@@ -41,7 +43,11 @@ const Q15_PILOTS: [(Pilot, &str); 2] = [F32[0], F32[3]];
 /// What the timing needs of a format.
 trait Timed: RealSample {
     type Value: Copy + PartialEq + std::fmt::Debug;
-    type Raw: Summed<Value = Self::Value> + PartialEq + std::fmt::Debug + 'static;
+    type Raw: Summed<Value = Self::Value>
+        + Racked<Value = Self::Value>
+        + PartialEq
+        + std::fmt::Debug
+        + 'static;
     fn original(
         way: Way,
         state: &mut StereoPllState<Self>,

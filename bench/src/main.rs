@@ -231,6 +231,7 @@ fn beside_original() {
     }
     decoder::run();
     decoder::summary::run();
+    decoder::rack::run();
 }
 
 fn main() {
@@ -238,8 +239,9 @@ fn main() {
         None => beside_original(),
         Some("before") => beside_earlier(),
         Some("summary") => decoder::summary::run(),
+        Some("rack") => decoder::rack::run(),
         Some(_) => {
-            eprintln!("usage: bench [before | summary]");
+            eprintln!("usage: bench [before | summary | rack]");
             std::process::exit(2);
         }
     }

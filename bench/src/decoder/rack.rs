@@ -1,0 +1,68 @@
+//! A round of a full rack beside eight blocks of `Fallback`, one after the other.
+
+use std::hint::black_box;
+
+use pescrondilu_sys::decoder::Way;
+use pescrondilu_sys::rack::{PLACES, Rack, RackWaiting, Waiting, rack_round};
+use sdrk_core::types::Q15;
+
+use super::{Pilot, Timed, decoders, inputs, same_outputs, same_state};
+use crate::{ACCEPTED, Staggered, ratio};
+
+/// Each decoder has n samples waiting, and the allowance is enough for all.
+fn round<F: Timed>(n: usize) -> f64 {
+    let (state, record) = decoders::<F>(Pilot::Clean);
+    let mut states = [state; PLACES];
+    let mut rack = Rack {
+        decoders: [record; PLACES],
+        number: PLACES,
+    };
+    let each = Waiting {
+        mpx: n,
+        pilot: n,
+        sum: n,
+        difference: n,
+    };
+    let waiting = RackWaiting {
+        decoders: [each; PLACES],
+    };
+    let all = PLACES * n;
+    // a part's pilot fits the next part too
+    let with = inputs::<F>(Pilot::Clean, record.step0, all);
+    let table = black_box(F::table());
+    let mut sum = Staggered::new(2, all, |i| F::mpx(i).raw());
+    let mut difference = Staggered::new(3, all, |i| F::mpx(i).raw());
+    let mut output = Staggered::new(6, all, |_| F::zero());
+    let answer = ratio(
+        all,
+        || {
+            let (x, p) = (black_box(with.mpx.get()), black_box(with.pilot.get()));
+            let (s, d) = (sum.get_mut(), difference.get_mut());
+            let round = rack_round(rack, all as u32, waiting, table, x, p, s, d);
+            rack = round.rack;
+            assert_eq!(black_box(round.answer), ACCEPTED);
+            assert_eq!(round.taken, [n; PLACES]);
+        },
+        || {
+            let (x, p) = (with.their_mpx.get(), with.their_pilot.get());
+            let inputs = x.chunks_exact(n).zip(p.chunks_exact(n));
+            let outputs = output.get_mut().chunks_exact_mut(n);
+            for ((state, (x, p)), o) in states.iter_mut().zip(inputs).zip(outputs) {
+                let done = F::original(Way::Fast, state, black_box(x), black_box(p), o);
+                assert!(black_box(done).is_ok());
+            }
+        },
+    );
+    for (ours, state) in rack.decoders.iter().zip(&states) {
+        same_state(ours, state);
+    }
+    same_outputs::<F>(sum.get(), difference.get(), output.get());
+    answer
+}
+
+pub fn run() {
+    for n in [64, 4096] {
+        println!("rack_f32, clean     {n:5} {:.3}", round::<f32>(n));
+        println!("rack_q15, clean     {n:5} {:.3}", round::<Q15>(n));
+    }
+}
