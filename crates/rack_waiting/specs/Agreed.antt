@@ -20,3 +20,9 @@ unfoldable pub Agreed : ℕ → List Waiting → Waiting → Type 0
 Agreed zero ws left = Unit {0}
 Agreed (suc n) [] left = Unit {0}
 Agreed (suc n) (w ∷ ws) left = Alike w left × Agreed n ws (restOf w left)
+
+-- ---- for decoders that have slices of their own: the four of each of the first n are equally long
+unfoldable pub Even : ℕ → List Waiting → Type 0
+Even zero ws = Unit {0}
+Even (suc n) [] = Unit {0}
+Even (suc n) (w ∷ ws) = ((w .pilot ≡ w .mpx) × (w .sum ≡ w .mpx) × (w .difference ≡ w .mpx)) × Even n ws
