@@ -1,0 +1,4 @@
+pub mod Rounds
+pub mod Turns
+pub mod Within
+pub mod Working

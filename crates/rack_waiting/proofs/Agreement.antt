@@ -17,7 +17,7 @@ use Rattle.decoder.proofs.Loops.{lengths-equal}
 use Rattle.rack_waiting.specs.declared.Waiting.{Waiting}
 use Rattle.rack_waiting.specs.Beside.{beside}
 use Rattle.rack_waiting.specs.Waiting.{causeOf, roundSays, partOf, restOf, partsOf}
-use Rattle.rack_waiting.specs.Agreed.{Alike, Agreed}
+use Rattle.rack_waiting.specs.Agreed.{Alike, Agreed, Even}
 
 -- what an accepted round tells
 pub record Accepted (number allowance table : ℕ) (fits : List Bool) (ws : List Waiting) : Type 0 where
@@ -90,3 +90,22 @@ pub agreed-next : (n k : ℕ) (ws : List Waiting) (left w : Waiting) → k < n �
 agreed-next n k ws left w hn hw h =
     let e : n - k ≡ suc (n - (k + 1)) = omega arith in
     rw (add-one k) (agreed-cons (n - (suc k)) (getD ws k w) (drop (suc k) ws) left (rw (e, drop-cons ws k w hw, add-one k) at h))
+
+-- ---- decoders that have slices of their own
+pub even-parts : (table : ℕ) (n : ℕ) (fits : List Bool) (ws : List Waiting) → n ≤ length fits
+    → accepts (firstCause (beside (causeOf table) n fits ws)) ≡ true → Even n ws
+unfolding Even beside
+even-parts table zero fits ws l h = tt
+even-parts table (suc n) fits [] l h = tt
+even-parts table (suc n) [] (w ∷ ws) l h = absurd (omega arith)
+even-parts table (suc n) (fit ∷ fits) (w ∷ ws) l h =
+    let x = both (causeOf table fit w) _ h in (own-lengths table fit w (x .0), even-parts table n fits ws (omega arith) (x .1))
+
+-- the decoder at k
+pub even-at : (n k : ℕ) (ws : List Waiting) (w : Waiting) → k < n → k < length ws → Even n ws
+    → let v = getD ws k w in (v .pilot ≡ v .mpx) × (v .sum ≡ v .mpx) × (v .difference ≡ v .mpx)
+unfolding Even
+even-at zero k ws w hn hw h = absurd (omega arith)
+even-at (suc n) k [] w hn hw h = absurd (omega arith)
+even-at (suc n) zero (v ∷ ws) w hn hw h = h .0
+even-at (suc n) (suc k) (v ∷ ws) w hn hw h = even-at n k ws w (omega arith) (omega arith) (h .1)
