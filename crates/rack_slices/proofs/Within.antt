@@ -2,6 +2,7 @@
 use Prim.Native.Nat.{ℕ, zero, suc, _+_, _≤_, _<_}
 use native.Mathlib.Omega.{arith}
 use mathlib.Core.Path.{_≡_, refl, sym, ap, _∙_}
+use mathlib.Core.Logic.{_⊎_, ⊎-elim}
 use mathlib.Core.List.{List, [], _∷_, _++_, map, map-append, append-nil}
 use lib.ListN.{length, take, drop, getD, set}
 use lib.Seq.{drop-nil}
@@ -20,7 +21,7 @@ over-same {B} u l z k e h = ap (λ (n : ℕ). over (u ++ (getD l n z ∷ [])) l)
     at (a ∷ u) [] h = absurd (omega arith)
     at (a ∷ u) (b ∷ l) h = ap (λ (m : List B). a ∷ m) (at u l (omega arith))
 
-map-samples : {B C : Type 0} (f : B → C) (n : ℕ) (g : ℕ → B) → map f (samples n g) ≡ samples n (λ k. f (g k))
+pub map-samples : {B C : Type 0} (f : B → C) (n : ℕ) (g : ℕ → B) → map f (samples n g) ≡ samples n (λ k. f (g k))
 unfolding samples
 map-samples f zero g = refl
 map-samples {C = C} f (suc n) g = map-append f (samples n g) (g n ∷ []) ∙ ap (λ (m : List C). m ++ (f (g n) ∷ [])) (map-samples f n g)
@@ -105,3 +106,11 @@ pub is-there : {A B : Type 0} (f : A → List B) (l : List A) (k : ℕ) → 0 < 
 is-there f [] k h = absurd (omega arith)
 is-there f (x ∷ l) zero h = omega arith
 is-there f (x ∷ l) (suc k) h = omega (arith, is-there f l k h)
+
+-- how long a slice is, and 0 past the end, by the two ways of a test
+pub long-at : {A B P Q : Type 0} (f : A → List B) (l : List A) (k : ℕ) (d : A) {n : ℕ} → (P → k < length l) → (Q → length l ≤ k)
+    → (P × (n ≡ length (f (getD l k d)))) ⊎ (Q × (n ≡ 0)) → n ≡ length (getD (map f l) k [])
+long-at f l k d in-it past =
+    ⊎-elim
+    (λ h. h .1 ∙ ap length (sym (there f l k d [] (in-it (h .0)))))
+    (λ h. h .1 ∙ ap length (sym (not-there f l k [] (past (h .0)))))

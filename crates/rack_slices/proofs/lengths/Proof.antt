@@ -1,13 +1,14 @@
 use Prim.Native.Nat.{_-_, _≤_}
-use mathlib.Core.Path.{_≡_, refl}
+use mathlib.Core.Path.{_≡_, refl, sym, _∙_}
 use mathlib.Core.List.{[], map}
 use native.Mathlib.Omega.{arith}
 use borrow.Author.Needs.{needs}
 use denote.Ref.{now}
-use lib.ListN.{length}
+use lib.ListN.{length, length-set}
 use Rattle.answers.proofs.Samples.{Filled, filled-start, filled-next, filled-end}
 use Rattle.rack.specs.Round.{waitingOf}
 use Rattle.rack_slices.specs.Slices.{queueAt}
+use Rattle.rack_slices.proofs.Within.{map-samples, long-at}
 use Rattle.rack_slices.proofs.lengths.Statement.{statement}
 use Rattle.rack_slices.proofs.lengths.Tie as tie
 
@@ -21,12 +22,14 @@ abbrev μ-loop : tie.MeasureT-loop
 
 loop-again : tie.Need-loop-again Inv-loop μ-loop
 loop-again c =
-    let l = c .before .before .before .before .before .loop in
-    let x = {! c .before .before .before .if1 !} in 
-    let xc = {! c .before .before .before .if1 .came !} in 
-    let x4 = {! c .if4 .came !} in 
-    let x5 = {! c .before .before .before .before !} in 
-    (omega arith, ?, filled-next (l .inv .2) (omega arith) ?)
+    let t = c .before .before .before .before .before in
+    let k = t .loop .k in
+    let a = t .before .args in
+    let x = long-at now (a .mpx .now) k _ (λ h. h .taken) (λ h. h .left) (c .before .before .before .if1 .came) in
+    let p = long-at now (a .pilot .now) k _ (λ h. h .taken) (λ h. h .left) (c .before .before .if2 .came) in
+    let y = long-at now (a .sum .now) k _ (λ h. h .taken) (λ h. h .left) (c .before .if3 .came) in
+    let z = long-at now (a .difference .now) k _ (λ h. h .taken) (λ h. h .left) (c .if4 .came) in
+    (omega arith, simp length-set (t .loop .inv .1), filled-next (t .loop .inv .2) (omega arith) (λ j. record { mpx = x j; pilot = p j; sum = y j; difference = z j }))
 
 pub lengths-spec : {M : Type 1} → statement M
 lengths-spec =
@@ -48,4 +51,4 @@ lengths-spec =
     (λ c. search needs)
     (λ c. search needs)
     loop-again
-    (λ c. ?))
+    (λ c. (filled-end (c .before .loop .inv .2) (c .before .loop .inv .0) (c .loop-test .left) ∙ sym (map-samples waitingOf 8 _), refl, refl)))
