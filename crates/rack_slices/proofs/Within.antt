@@ -4,7 +4,7 @@ use native.Mathlib.Omega.{arith}
 use mathlib.Core.Path.{_≡_, refl, sym, ap, _∙_}
 use mathlib.Core.Logic.{_⊎_, ⊎-elim}
 use mathlib.Core.List.{List, [], _∷_, _++_, map, map-append, append-nil}
-use lib.ListN.{length, take, drop, getD, set}
+use lib.ListN.{length, take, drop, getD, set, length-map}
 use lib.Seq.{drop-nil}
 use Rattle.answers.specs.Samples.{samples}
 use Rattle.answers.proofs.Passes.{length-samples}
@@ -106,6 +106,15 @@ pub is-there : {A B : Type 0} (f : A → List B) (l : List A) (k : ℕ) → 0 < 
 is-there f [] k h = absurd (omega arith)
 is-there f (x ∷ l) zero h = omega arith
 is-there f (x ∷ l) (suc k) h = omega (arith, is-there f l k h)
+
+-- as many as before
+pub as-many : {A B : Type 0} (f : A → B) (l m : List A) → length (map f m) ≡ length (map f l) → length m ≡ length l
+as-many f l m e = sym (length-map m f) ∙ e ∙ length-map l f
+
+-- two slices that are there are equally long
+pub as-long : {A B C : Type 0} (f : A → List C) (g : B → List C) (l : List A) (m : List B) (k : ℕ) (d : A) (e : B) → k < length l → k < length m
+    → length (getD (map f l) k []) ≡ length (getD (map g m) k []) → length (f (getD l k d)) ≡ length (g (getD m k e))
+as-long f g l m k d e hl hm h = ap length (sym (there f l k d [] hl)) ∙ h ∙ ap length (there g m k e [] hm)
 
 -- how long a slice is, and 0 past the end, by the two ways of a test
 pub long-at : {A B P Q : Type 0} (f : A → List B) (l : List A) (k : ℕ) (d : A) {n : ℕ} → (P → k < length l) → (Q → length l ≤ k)

@@ -9,13 +9,28 @@ use lib.ListN.{length, getD, set, length-map}
 use Rattle.answers.proofs.Passes.{length-samples, sample-at}
 use Rattle.decoder_record.specs.State.{Pll}
 use Rattle.decoder.specs.Machine.{Arithmetic}
+use Rattle.rack_waiting.specs.declared.Waiting.{Waiting}
 use Rattle.rack_waiting.specs.Beside.{beside, over}
+use Rattle.rack_waiting.specs.Agreed.{Even}
 use Rattle.rack_waiting.proofs.Beside.{beside-more, length-beside, over-set}
-use Rattle.rack.specs.Round.{Queue, Turned, turnOf}
+use Rattle.rack_waiting.proofs.Agreement.{even-at}
+use Rattle.rack.specs.Round.{Queue, waitingOf, Turned, turnOf}
 use Rattle.rack.proofs.Parts.{over-get}
 use Rattle.rack_slices.specs.Slices.{Slices, queueAt, queuesAt, within, Worked, workedOf}
 use Rattle.rack_slices.proofs.Turns.{turn-none}
-use Rattle.rack_slices.proofs.Within.{within-none, within-length, within-get, within-set, within-same, over-same}
+use Rattle.rack_slices.proofs.Within.{map-samples, within-none, within-length, within-get, within-set, within-same, over-same}
+
+-- what waits for the decoder at k, by the lengths of all
+module _ {A : Type 0} (s : Slices A) (number k : ℕ) (ws : List Waiting) (w : Waiting) (hn : k < number) (h8 : k < 8) (e : ws ≡ map waitingOf (queuesAt s)) where
+  pub waits-at : getD ws k w ≡ waitingOf (queueAt s k)
+  waits-at = ap (λ (l : List Waiting). getD l k w) (e ∙ map-samples waitingOf 8 (queueAt s)) ∙ sample-at 8 (λ i. waitingOf (queueAt s i)) w k h8
+
+  pub even-queue : Even number ws → let m = length (getD (s .mpx) k []) in
+      (length (getD (s .pilot) k []) ≡ m) × (length (getD (s .sum) k []) ≡ m) × (length (getD (s .difference) k []) ≡ m)
+  even-queue h = rw waits-at at (even-at number k ws w hn (omega (arith, all)) h)
+    where
+      all : length ws ≡ 8
+      all = ap length e ∙ length-map (queuesAt s) waitingOf ∙ length-samples 8 (queueAt s)
 
 module _ {A : Type 0} (F : Arithmetic A) (share : ℕ) (t : List A) (ds₀ : List (Pll A)) (s : Slices A) where
   abbrev turns : ℕ → List (Turned A)
@@ -58,6 +73,9 @@ module _ {A : Type 0} {F : Arithmetic A} {number share : ℕ} {t : List A} {ds�
           decoders = (i .decoders ∙ ap (λ (n : ℕ). over (plls F share t ds₀ s n) ds₀) e) j;
         }
 
+    pub working-as : {ys′ zs′ : List (List A)} {ds′ : List (Pll A)} → ys′ ≡ ys → zs′ ≡ zs → ds′ ≡ ds → Working F share t ds₀ s number k ys′ zs′ ds′
+    working-as ey ez ed = record { upto = i .upto; sum = ey ∙ i .sum; difference = ez ∙ i .difference; decoders = ed ∙ i .decoders }
+
     -- the decoder at k
     module _ (hn : k < number) (h8 : k < 8) (hd : k < length ds₀) where
       long : {B : Type 0} (f : Turned A → B) → length (map f (turns F share t ds₀ s k)) ≡ k
@@ -97,13 +115,14 @@ module _ {A : Type 0} {F : Arithmetic A} {number share : ℕ} {t : List A} {ds�
         }
 
       -- it has its turn, on its slices as they stand
-      pub working-next : (d : Pll A) (q : Queue A) {o : Turned A}
+      pub working-next : (d : Pll A) (q : Queue A) {p : Pll A} {o : Turned A}
+          → getD ds k d ≡ p
           → q ≡ record { mpx = getD (s .mpx) k []; pilot = getD (s .pilot) k []; sum = getD ys k []; difference = getD zs k [] }
-          → o ≡ turnOf F t share (getD ds k d) q
+          → o ≡ turnOf F t share p q
           → Working F share t ds₀ s number (k + 1) (set ys k (o .sum)) (set zs k (o .difference)) (set ds k (o .pll))
-      working-next d q {o} eq eo =
-          after d o (sym (eo ∙ (λ j. turnOf F t share (same-decoder d j) ((eq ∙ here) j)))) (
-            ap (λ (l : List (List A)). set l k (o .sum)) (i .sum) ∙ within-set (sums F share t ds₀ s k) (s .sum) (o .sum) k (long (λ u. u .sum)))
+      working-next d q {o = o} ep eq eo =
+          after d o (sym (eo ∙ (λ j. turnOf F t share ((sym ep ∙ same-decoder d) j) ((eq ∙ here) j))))
+          (ap (λ (l : List (List A)). set l k (o .sum)) (i .sum) ∙ within-set (sums F share t ds₀ s k) (s .sum) (o .sum) k (long (λ u. u .sum)))
           (ap (λ (l : List (List A)). set l k (o .difference)) (i .difference) ∙ within-set (differences F share t ds₀ s k) (s .difference) (o .difference) k (long (λ u. u .difference)))
           (ap (λ (l : List (Pll A)). set l k (o .pll)) (i .decoders) ∙ over-set (plls F share t ds₀ s k) ds₀ (o .pll) k (long (λ u. u .pll)) hd)
         where
