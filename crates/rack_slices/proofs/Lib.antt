@@ -1,3 +1,5 @@
+pub mod Lending
+pub mod Places
 pub mod Rounds
 pub mod Turns
 pub mod Within

@@ -8,7 +8,8 @@ use lib.ListN.{length, length-set}
 use Rattle.answers.proofs.Samples.{Filled, filled-start, filled-next, filled-end}
 use Rattle.rack.specs.Round.{waitingOf}
 use Rattle.rack_slices.specs.Slices.{queueAt}
-use Rattle.rack_slices.proofs.Within.{map-samples, long-at}
+use Rattle.rack_slices.proofs.Places.{long-at}
+use Rattle.rack_slices.proofs.Within.{map-samples}
 use Rattle.rack_slices.proofs.lengths.Statement.{statement}
 use Rattle.rack_slices.proofs.lengths.Tie as tie
 
