@@ -27,7 +27,7 @@ pub struct RoundQ15 {
 }
 
 // Which records are fit.
-fn fit_records(decoders: [StereoPllQ15; 8]) -> [bool; 8]
+pub fn fit_records(decoders: [StereoPllQ15; 8]) -> [bool; 8]
     ensures { λ r. ⌜ r ≡ map fitQ15 (map pllQ15 decoders) ⌝ }
 {
     let mut fit = [false; 8];

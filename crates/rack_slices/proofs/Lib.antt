@@ -1,3 +1,4 @@
+pub mod Free
 pub mod Lending
 pub mod Places
 pub mod Rounds

@@ -4,7 +4,7 @@ use native.Mathlib.Omega.{arith}
 use mathlib.Core.Path.{_≡_, refl, sym, ap, _∙_}
 use mathlib.Core.Bool.{Bool, true, false, cond}
 use mathlib.Core.List.{List, [], map, map-map}
-use lib.ListN.{length, getD}
+use lib.ListN.{length, replicate}
 use Rattle.answers.specs.Answer.{Said, accepts, kept}
 use Rattle.answers.proofs.Passes.{length-samples}
 use Rattle.decoder_record.specs.State.{Pll}
@@ -13,6 +13,7 @@ use Rattle.rack_waiting.specs.declared.Waiting.{Waiting}
 use Rattle.rack_waiting.specs.Beside.{beside, over}
 use Rattle.rack_waiting.specs.Waiting.{roundSays, takenOf}
 use Rattle.rack_waiting.specs.Agreed.{Even}
+use Rattle.rack_waiting.proofs.Loops.{constant}
 use Rattle.rack_waiting.proofs.Agreement.{Accepted, accepted-round, even-parts}
 use Rattle.rack.specs.Round.{Queue, waitingOf, Turned, turnOf, roundOf}
 use Rattle.rack.proofs.Turns.{turns-taken}
@@ -61,13 +62,12 @@ module _ {A : Type 0} {F : Arithmetic A} {number allowance : ℕ} {t : List A} {
   own-differences : (us : List (List A)) → within us (s .difference) ≡ within (over us (map (λ q. q .difference) (queuesAt s))) (s .difference)
   own-differences us = within-queues (λ q. q .difference) 8 (queueAt s) us (s .difference) [] (λ k. refl)
 
-  pub refused : {taken : List ℕ} {sum difference : List (List A)} → accepts a ≡ false → taken ≡ map (λ q. 0) (queuesAt s)
-      → sum ≡ s .sum → difference ≡ s .difference
-      → record { said = a; taken = taken; sum = sum; difference = difference; decoders = ds } ≡ slicesOf F number allowance t ds s
-  refused h et ey ez =
+  pub refused : {sum difference : List (List A)} → accepts a ≡ false → sum ≡ s .sum → difference ≡ s .difference
+      → record { said = a; taken = replicate 8 0; sum = sum; difference = difference; decoders = ds } ≡ slicesOf F number allowance t ds s
+  refused h ey ez =
       (λ j. record {
         said = a;
-        taken = et j;
+        taken = constant {B = ℕ} 0 8 (queuesAt s) (length-samples 8 (queueAt s)) j;
         sum = (ey ∙ sym (within-none (s .sum)) ∙ own-sums []) j;
         difference = (ez ∙ sym (within-none (s .difference)) ∙ own-differences []) j;
         decoders = ds;

@@ -1,13 +1,12 @@
 use Prim.Native.Nat.{_-_, _≤_}
-use mathlib.Core.Path.{_≡_, refl, sym, _∙_}
-use mathlib.Core.List.{[], map}
+use mathlib.Core.Path.{refl, sym, _∙_}
 use native.Mathlib.Omega.{arith}
 use borrow.Author.Needs.{needs}
 use denote.Ref.{now}
-use lib.ListN.{length, length-set}
 use Rattle.answers.proofs.Samples.{Filled, filled-start, filled-next, filled-end}
 use Rattle.rack.specs.Round.{waitingOf}
 use Rattle.rack_slices.specs.Slices.{queueAt}
+use Rattle.rack_slices.proofs.Lending.{slicesIn}
 use Rattle.rack_slices.proofs.Places.{long-at}
 use Rattle.rack_slices.proofs.Within.{map-samples}
 use Rattle.rack_slices.proofs.lengths.Statement.{statement}
@@ -15,8 +14,7 @@ use Rattle.rack_slices.proofs.lengths.Tie as tie
 
 abbrev Inv-loop : tie.InvT-loop
 Inv-loop mpx pilot sum difference waiting₀ k₀ waiting k =
-    (k ≤ 8) × (length waiting ≡ 8)
-    × Filled 8 (λ i. waitingOf (queueAt (record { mpx = map now mpx; pilot = map now pilot; sum = map now sum; difference = map now difference }) i)) k waiting
+    (k ≤ 8) × Filled 8 (λ i. waitingOf (queueAt (slicesIn mpx pilot sum difference) i)) k waiting
 
 abbrev μ-loop : tie.MeasureT-loop
 μ-loop mpx pilot sum difference waiting₀ k₀ waiting k = 8 - k
@@ -30,7 +28,7 @@ loop-again c =
     let p = long-at now (a .pilot .now) k _ (λ h. h .taken) (λ h. h .left) (c .before .before .if2 .came) in
     let y = long-at now (a .sum .now) k _ (λ h. h .taken) (λ h. h .left) (c .before .if3 .came) in
     let z = long-at now (a .difference .now) k _ (λ h. h .taken) (λ h. h .left) (c .if4 .came) in
-    (omega arith, simp length-set (t .loop .inv .1), filled-next (t .loop .inv .2) (omega arith) (λ j. record { mpx = x j; pilot = p j; sum = y j; difference = z j }))
+    (omega arith, filled-next (t .loop .inv .1) (omega arith) (λ j. record { mpx = x j; pilot = p j; sum = y j; difference = z j }))
 
 pub lengths-spec : {M : Type 1} → statement M
 lengths-spec =
@@ -38,7 +36,7 @@ lengths-spec =
     (tie.spec
     Inv-loop
     μ-loop
-    (λ c. (omega arith, refl, filled-start refl))
+    (λ c. (omega arith, filled-start refl))
     (λ c. search needs)
     (λ c. search needs)
     (λ c. search needs)
@@ -52,4 +50,4 @@ lengths-spec =
     (λ c. search needs)
     (λ c. search needs)
     loop-again
-    (λ c. (filled-end (c .before .loop .inv .2) (c .before .loop .inv .0) (c .loop-test .left) ∙ sym (map-samples waitingOf 8 _), refl, refl)))
+    (λ c. (filled-end (c .before .loop .inv .1) (c .before .loop .inv .0) (c .loop-test .left) ∙ sym (map-samples waitingOf 8 _), refl, refl)))

@@ -1,20 +1,18 @@
-use Prim.Native.Nat.{ℕ}
 use mathlib.Core.Path.{_≡_, refl, sym, ap, _∙_}
 use mathlib.Core.Bool.{true}
 use mathlib.Core.List.{List, map}
 use borrow.Author.Needs.{needs}
-use denote.Ref.{now}
 use lib.ListN.{length, replicate, length-map}
 use lib.Ieee.{Float}
 use Rattle.answers.specs.Answer.{says}
-use Rattle.answers.proofs.Passes.{length-samples}
 use Rattle.answers.proofs.Tests.{failed, passed}
 use Rattle.decoder_record.specs.State.{Pll}
 use Rattle.decoder_record.specs.Records.{pllF32}
 use Rattle.decoder.specs.F32.{f32}
 use Rattle.rack_waiting.proofs.Loops.{constant}
 use Rattle.rack.specs.Round.{waitingOf}
-use Rattle.rack_slices.specs.Slices.{Slices, queueAt, queuesAt}
+use Rattle.rack_slices.specs.Slices.{Slices, queuesAt}
+use Rattle.rack_slices.proofs.Lending.{slicesIn}
 use Rattle.rack_slices.proofs.Rounds.{Answered, refused, even, some, carried-out}
 use Rattle.rack_slices.proofs.round.Statement.{statement}
 use Rattle.rack_slices.proofs.round.Tie as tie
@@ -31,11 +29,11 @@ module _ (c : tie.After-is-accepted) where
   ds = map pllF32 (start .args .decoders)
 
   abbrev s : Slices Float
-  s = let a = start .args in record { mpx = map now (a .mpx .now); pilot = map now (a .pilot .now); sum = map now (a .sum .now); difference = map now (a .difference .now) }
+  s = let a = start .args in slicesIn (a .mpx .now) (a .pilot .now) (a .sum .now) (a .difference .now)
 
   -- the slices once their lengths are read
   abbrev read : Slices Float
-  read = record { mpx = s .mpx; pilot = s .pilot; sum = map now (measured .lengths .last .1 .1 .0); difference = map now (measured .lengths .last .1 .1 .1 .0) }
+  read = let a = start .args in slicesIn (a .mpx .now) (a .pilot .now) (measured .lengths .last .1 .1 .0) (measured .lengths .last .1 .1 .1 .0)
 
   same : read ≡ s
   same = λ j. record { mpx = s .mpx; pilot = s .pilot; sum = measured .lengths .ensures .1 j; difference = measured .lengths .ensures .2 j }
@@ -57,7 +55,7 @@ round-spec =
     (λ c κs. search needs)
     (λ c. search needs)
     (λ c. search needs)
-    (λ r. let c = r .before in refused (answered c) (failed (c .is-accepted .ensures) (r .if1 .taken)) (constant {B = ℕ} 0 8 (queuesAt (s c)) (length-samples 8 (queueAt (s c)))) (measured c .lengths .ensures .1) (measured c .lengths .ensures .2))
+    (λ r. let c = r .before in refused (answered c) (failed (c .is-accepted .ensures) (r .if1 .taken)) (measured c .lengths .ensures .1) (measured c .lengths .ensures .2))
     (λ r. let c = r .before in some (answered c) (passed (c .is-accepted .ensures) (r .if1 .left)))
     (λ r κs.
     let c = r .before .before .before in

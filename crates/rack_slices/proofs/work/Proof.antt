@@ -6,6 +6,7 @@ use native.Mathlib.Omega.{arith}
 use borrow.Author.Needs.{needs, fits-under}
 use mir.Syntax.{w64}
 use mir.Val.{Fits}
+use lib.ListN.{length}
 use lib.Ieee.{nan}
 use Rattle.decoder_record.specs.declared.pll_f32.StereoPllF32.{StereoPllF32}
 use Rattle.decoder_record.specs.Records.{pllF32}
@@ -30,25 +31,32 @@ scaled : (k n : ℕ) → k < n → n ≤ 8 → Fits w64 (k * 44)
 scaled k n h g = fits-under w64 (k * 44) 512 (omega arith) tt
 
 -- the decoder at k, once it is known what waits
-module _ (w : tie.After-w Inv-loop μ-loop) where
+module _ (v : tie.After-w Inv-loop μ-loop) where
   abbrev at : tie.At-loop Inv-loop μ-loop
-  at = w .before .before
+  at = v .before .before
 
   abbrev h : at .loop .k < at .before .before .args .number
-  h = w .before .loop-test .taken
+  h = v .before .loop-test .taken
+
+-- .. and that something does
+module _ (t : tie.Then1 Inv-loop μ-loop) where
+  abbrev w : tie.After-w Inv-loop μ-loop
+  w = t .before .before
+
+  sum-there : at w .loop .k < length (at w .loop .sum)
+  sum-there = in-sum (at w .loop .inv) (h w) (t .if1 .taken)
+
+  difference-there : at w .loop .k < length (at w .loop .difference)
+  difference-there = in-difference (at w .loop .inv) (h w) (t .if1 .taken)
 
 loop-again : tie.Need-loop-again Inv-loop μ-loop
 loop-again c =
-    let w = c .before .before in
-    let i = at w .loop .inv in
+    let v = c .before .before in
+    let i = at v .loop .inv in
     ⊎-elim
-    (λ g. lending-next i (h w) (g .0 .taken) absent (g .6 .result) _ _ (g .6 .ensures) (g .7) (g .8) (g .9))
-    (λ g. lending-past i (h w) absent (g .0 .left) (g .1) (g .2) (g .3))
+    (λ g. lending-next i (h v) (g .0 .taken) absent (g .6 .result) _ _ (g .6 .ensures) (g .7) (g .8) (g .9))
+    (λ g. lending-past i (h v) absent (g .0 .left) (g .1) (g .2) (g .3))
     (c .if1 .came)
-
--- what waits is known at
-abbrev of-then : tie.Then1 Inv-loop μ-loop → tie.After-w Inv-loop μ-loop
-of-then t = t .before .before
 
 pub work-spec : {M : Type 1} → statement M
 work-spec =
@@ -62,22 +70,22 @@ work-spec =
     (λ c. search needs)
     (λ c. search needs)
     (λ c. search needs)
-    (λ c. let t = c .before in let w = of-then t in in-mpx (at w .loop .inv) (h w) (t .if1 .taken))
+    (λ c. let t = c .before in in-mpx (at (w t) .loop .inv) (h (w t)) (t .if1 .taken))
     (λ c. search needs)
-    (λ c. let t = c .before .before in let w = of-then t in in-pilot (at w .loop .inv) (h w) (t .if1 .taken))
+    (λ c. let t = c .before .before in in-pilot (at (w t) .loop .inv) (h (w t)) (t .if1 .taken))
     (λ c. search needs)
-    (λ c. let t = c .before .before .before in let w = of-then t in in-sum (at w .loop .inv) (h w) (t .if1 .taken))
-    (λ c. let t = c .before .before .before in let w = of-then t in in-sum (at w .loop .inv) (h w) (t .if1 .taken))
+    (λ c. sum-there (c .before .before .before))
+    (λ c. sum-there (c .before .before .before))
     (λ c. refl)
     (λ c. search needs)
-    (λ c. let t = c .before .before .before .before in let w = of-then t in in-difference (at w .loop .inv) (h w) (t .if1 .taken))
-    (λ c. let t = c .before .before .before .before in let w = of-then t in in-difference (at w .loop .inv) (h w) (t .if1 .taken))
+    (λ c. difference-there (c .before .before .before .before))
+    (λ c. difference-there (c .before .before .before .before))
     (λ c. refl)
-    (λ c κs. let t = c .before .before .before .before .before in let w = of-then t in lent-long (at w .loop .inv) (h w) (t .if1 .taken))
-    (λ c. let w = of-then (c .before .before .before .before .before .before) in scaled (at w .loop .k) _ (h w) (at w .loop .inv .eight))
-    (λ c. let w = of-then (c .before .before .before .before .before .before) in small (at w .loop .k) _ (h w) (at w .loop .inv .eight))
-    (λ c. let w = c .before .before in next-fits (at w .loop .k) _ (h w) (at w .loop .inv .eight))
-    (λ c. let w = c .before .before in falls (at w .loop .k) _ (h w))
+    (λ c κs. let t = c .before .before .before .before .before in lent-long (at (w t) .loop .inv) (h (w t)) (t .if1 .taken))
+    (λ c. let v = w (c .before .before .before .before .before .before) in scaled (at v .loop .k) _ (h v) (at v .loop .inv .eight))
+    (λ c. let v = w (c .before .before .before .before .before .before) in small (at v .loop .k) _ (h v) (at v .loop .inv .eight))
+    (λ c. let v = c .before .before in next-fits (at v .loop .k) _ (h v) (at v .loop .inv .eight))
+    (λ c. let v = c .before .before in falls (at v .loop .k) _ (h v))
     loop-again
     (λ c. sums-kept (c .before .loop .inv))
     (λ c. differences-kept (c .before .loop .inv))
