@@ -30,7 +30,7 @@ pub struct RoundF32 {
 }
 
 // The machine's records from C's.
-fn all_taken(decoders: [DecoderF32; 8]) -> [StereoPllF32; 8]
+pub fn all_taken(decoders: [DecoderF32; 8]) -> [StereoPllF32; 8]
     ensures { λ r. ⌜ map pllF32 r ≡ map takenOf (map decoderF32 decoders) ⌝ }
 {
     let first = taken(decoders[0]);
@@ -45,7 +45,7 @@ fn all_taken(decoders: [DecoderF32; 8]) -> [StereoPllF32; 8]
 }
 
 // And back.
-fn all_given(records: [StereoPllF32; 8]) -> [DecoderF32; 8]
+pub fn all_given(records: [StereoPllF32; 8]) -> [DecoderF32; 8]
     ensures { λ r. ⌜ map decoderF32 r ≡ map givenOf (map pllF32 records) ⌝ }
 {
     let first = given(records[0]);

@@ -30,7 +30,7 @@ pub struct RoundQ15 {
 }
 
 // The machine's records from C's.
-fn all_taken(decoders: [DecoderQ15; 8]) -> [StereoPllQ15; 8]
+pub fn all_taken(decoders: [DecoderQ15; 8]) -> [StereoPllQ15; 8]
     ensures { λ r. ⌜ map pllQ15 r ≡ map takenOf (map decoderQ15 decoders) ⌝ }
 {
     let first = taken(decoders[0]);
@@ -45,7 +45,7 @@ fn all_taken(decoders: [DecoderQ15; 8]) -> [StereoPllQ15; 8]
 }
 
 // And back.
-fn all_given(records: [StereoPllQ15; 8]) -> [DecoderQ15; 8]
+pub fn all_given(records: [StereoPllQ15; 8]) -> [DecoderQ15; 8]
     ensures { λ r. ⌜ map decoderQ15 r ≡ map givenOf (map pllQ15 records) ⌝ }
 {
     let first = given(records[0]);
