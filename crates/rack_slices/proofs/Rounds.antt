@@ -14,8 +14,8 @@ use Rattle.rack_waiting.specs.Beside.{beside, over}
 use Rattle.rack_waiting.specs.Waiting.{roundSays, takenOf}
 use Rattle.rack_waiting.specs.Agreed.{Even}
 use Rattle.rack_waiting.proofs.Loops.{constant}
-use Rattle.rack_waiting.proofs.Agreement.{Accepted, accepted-round, even-parts}
-use Rattle.rack.specs.Round.{Queue, waitingOf, Turned, turnOf, roundOf}
+use Rattle.rack_waiting.proofs.Agreement.{accepted-round, even-parts}
+use Rattle.rack.specs.Round.{waitingOf, Turned, turnOf, roundOf}
 use Rattle.rack.proofs.Turns.{turns-taken}
 use Rattle.rack_slices.specs.Slices.{Slices, queueAt, queuesAt, within, Sliced, slicesOf, Worked, workedOf}
 use Rattle.rack_slices.proofs.Within.{within-none, within-queues}
@@ -104,4 +104,6 @@ module _ {A : Type 0} {F : Arithmetic A} {number allowance : ℕ} {t : List A} {
       same-taken : takenOf number share ws ≡ over (map (λ u. u .taken) turns) (map (λ q. 0) (queuesAt s))
       same-taken =
           ap (takenOf number share) (i .waits)
-          ∙ (λ j. over (sym (turns-taken F t share number ds (queuesAt s) (omega (arith, i .places, length-samples 8 (queueAt s)))) j) (map-map (λ (w : Waiting). 0) waitingOf (queuesAt s) j))
+          ∙ (λ j. over
+          (sym (turns-taken F t share number ds (queuesAt s) (omega (arith, i .places, length-samples 8 (queueAt s)))) j)
+          (map-map (λ (w : Waiting). 0) waitingOf (queuesAt s) j))

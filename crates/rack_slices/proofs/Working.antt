@@ -1,6 +1,6 @@
 -- The loop over a rack's decoders that have slices of their own, over the format: the first k have had their turn.
 -- Assumes nothing.
-use Prim.Native.Nat.{ℕ, suc, _+_, _≤_, _<_}
+use Prim.Native.Nat.{ℕ, _+_, _≤_, _<_}
 use native.Mathlib.Numerals.{add-one}
 use native.Mathlib.Omega.{arith}
 use mathlib.Core.Path.{_≡_, refl, sym, ap, _∙_}
@@ -16,7 +16,7 @@ use Rattle.rack_waiting.proofs.Beside.{beside-more, length-beside, over-set}
 use Rattle.rack_waiting.proofs.Agreement.{even-at}
 use Rattle.rack.specs.Round.{Queue, waitingOf, Turned, turnOf}
 use Rattle.rack.proofs.Parts.{over-get}
-use Rattle.rack_slices.specs.Slices.{Slices, queueAt, queuesAt, within, Worked, workedOf}
+use Rattle.rack_slices.specs.Slices.{Slices, queueAt, queuesAt, within, workedOf}
 use Rattle.rack_slices.proofs.Turns.{turn-none}
 use Rattle.rack_slices.proofs.Within.{map-samples, within-none, within-length, within-get, within-set, within-same, over-same}
 
@@ -79,14 +79,20 @@ module _ {A : Type 0} {F : Arithmetic A} {number share : ℕ} {t : List A} {ds�
     -- the decoder at k
     module _ (hn : k < number) (h8 : k < 8) (hd : k < length ds₀) where
       long : {B : Type 0} (f : Turned A → B) → length (map f (turns F share t ds₀ s k)) ≡ k
-      long f = length-map (turns F share t ds₀ s k) f ∙ length-beside (turnOf F t share) k ds₀ (queuesAt s) (omega arith) (omega (arith, length-samples 8 (queueAt s)))
+      long f =
+          length-map (turns F share t ds₀ s k) f
+          ∙ length-beside (turnOf F t share) k ds₀ (queuesAt s) (omega arith) (omega (arith, length-samples 8 (queueAt s)))
 
       -- its outputs stand as they were
       pub same-sum : getD ys k [] ≡ getD (s .sum) k []
-      same-sum = ap (λ (l : List (List A)). getD l k []) (i .sum) ∙ within-get (sums F share t ds₀ s k) (s .sum) k [] (long (λ u. u .sum))
+      same-sum =
+          ap (λ (l : List (List A)). getD l k []) (i .sum)
+          ∙ within-get (sums F share t ds₀ s k) (s .sum) k [] (long (λ u. u .sum))
 
       pub same-difference : getD zs k [] ≡ getD (s .difference) k []
-      same-difference = ap (λ (l : List (List A)). getD l k []) (i .difference) ∙ within-get (differences F share t ds₀ s k) (s .difference) k [] (long (λ u. u .difference))
+      same-difference =
+          ap (λ (l : List (List A)). getD l k []) (i .difference)
+          ∙ within-get (differences F share t ds₀ s k) (s .difference) k [] (long (λ u. u .difference))
 
       same-decoder : (d : Pll A) → getD ds k d ≡ getD ds₀ k d
       same-decoder d = ap (λ (l : List (Pll A)). getD l k d) (i .decoders) ∙ over-get (plls F share t ds₀ s k) ds₀ k d (long (λ u. u .pll))
@@ -122,9 +128,12 @@ module _ {A : Type 0} {F : Arithmetic A} {number share : ℕ} {t : List A} {ds�
           → Working F share t ds₀ s number (k + 1) (set ys k (o .sum)) (set zs k (o .difference)) (set ds k (o .pll))
       working-next d q {o = o} ep eq eo =
           after d o (sym (eo ∙ (λ j. turnOf F t share ((sym ep ∙ same-decoder d) j) ((eq ∙ here) j))))
-          (ap (λ (l : List (List A)). set l k (o .sum)) (i .sum) ∙ within-set (sums F share t ds₀ s k) (s .sum) (o .sum) k (long (λ u. u .sum)))
-          (ap (λ (l : List (List A)). set l k (o .difference)) (i .difference) ∙ within-set (differences F share t ds₀ s k) (s .difference) (o .difference) k (long (λ u. u .difference)))
-          (ap (λ (l : List (Pll A)). set l k (o .pll)) (i .decoders) ∙ over-set (plls F share t ds₀ s k) ds₀ (o .pll) k (long (λ u. u .pll)) hd)
+          (ap (λ (l : List (List A)). set l k (o .sum)) (i .sum)
+          ∙ within-set (sums F share t ds₀ s k) (s .sum) (o .sum) k (long (λ u. u .sum)))
+          (ap (λ (l : List (List A)). set l k (o .difference)) (i .difference)
+          ∙ within-set (differences F share t ds₀ s k) (s .difference) (o .difference) k (long (λ u. u .difference)))
+          (ap (λ (l : List (Pll A)). set l k (o .pll)) (i .decoders)
+          ∙ over-set (plls F share t ds₀ s k) ds₀ (o .pll) k (long (λ u. u .pll)) hd)
         where
           here : record { mpx = getD (s .mpx) k []; pilot = getD (s .pilot) k []; sum = getD ys k []; difference = getD zs k [] } ≡ queueAt s k
           here = λ j. record { mpx = getD (s .mpx) k []; pilot = getD (s .pilot) k []; sum = same-sum j; difference = same-difference j }
