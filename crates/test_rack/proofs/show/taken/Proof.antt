@@ -1,0 +1,29 @@
+-- `test_rack::show::taken` is safe and ends. Assumes nothing.
+use Prim.Native.Nat.{_-_, _≤_}
+use native.Mathlib.Omega.{arith}
+use borrow.Author.Needs.{needs}
+use Rattle.test_rack.proofs.show.taken.Statement.{statement}
+use Rattle.test_rack.proofs.show.taken.Tie as tie
+
+abbrev Inv-loop : tie.InvT-loop
+Inv-loop counts k₀ k = k ≤ 8
+
+abbrev μ-loop : tie.MeasureT-loop
+μ-loop counts k₀ k = 8 - k
+
+pub taken-spec : {M : Type 1} → statement M
+taken-spec =
+    tie.close
+    (tie.spec
+    Inv-loop
+    μ-loop
+    (λ c. search needs)
+    (λ c κs. search needs)
+    (λ c. omega arith)
+    (λ c. search needs)
+    (λ c. search needs)
+    (λ c κs. search needs)
+    (λ c. search needs)
+    (λ c. omega arith)
+    (λ c. omega arith)
+    (λ c. search needs))

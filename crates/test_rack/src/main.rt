@@ -1,0 +1,22 @@
+// Runs rounds of racks: each refusal, the order of the causes, parts, shares, and rounds one after the
+// other. What each has to write stands in the file stdout; it was worked out from document 02, request 6,
+// and not from what this program wrote.
+
+mod cases;
+mod round;
+mod show;
+mod start;
+
+fn all(ones: &[f32], tops: &[i16]) {
+    cases::by_number(ones, tops);
+    cases::by_decoder(ones, tops);
+    cases::by_length(ones, tops);
+    cases::by_share(ones, tops);
+    cases::by_part(ones, tops);
+}
+
+fn main() {
+    let ones = [1.0f32; 4097];
+    let tops = [32767i16; 4097];
+    all(&ones, &tops);
+}
