@@ -130,13 +130,13 @@ module _ {A : Type 0} {F : Arithmetic A} {number allowance : ℕ} {t : List A} {
       → record { sum = sum; difference = difference; decoders = next } ≡ workedOf F number t share ds cut flat
       → record { said = s; taken = taken; sum = sum; difference = difference; decoders = next } ≡ flatOf F number allowance t ds ws flat
   unfolding workedOf
-  carried-out h l et ew =
+  carried-out {taken} {sum} {difference} {next} h l et ew =
       (λ j. record {
         said = s;
         taken = (et ∙ same-taken) j;
-        sum = (ap (λ (w : Worked A). w .sum) ew ∙ ap (λ (us : List (Turned A)). over (joined (map (λ u. u .sum) us)) (flat .sum)) same-turns ∙ sums-over (map (λ u. u .sum) turns) ws flat (long .0)) j;
-        difference = (ap (λ (w : Worked A). w .difference) ew ∙ ap (λ (us : List (Turned A)). over (joined (map (λ u. u .difference) us)) (flat .difference)) same-turns ∙ differences-over (map (λ u. u .difference) turns) ws flat (long .1)) j;
-        decoders = (ap (λ (w : Worked A). w .decoders) ew ∙ ap (λ (us : List (Turned A)). over (map (λ u. u .pll) us) ds) same-turns) j;
+        sum = (worked (λ w. w .sum) ∙ sums-over (map (λ u. u .sum) turns) ws flat (long .0)) j;
+        difference = (worked (λ w. w .difference) ∙ differences-over (map (λ u. u .difference) turns) ws flat (long .1)) j;
+        decoders = worked (λ w. w .decoders) j;
       })
       ∙ by-test true h
     where
@@ -145,6 +145,17 @@ module _ {A : Type 0} {F : Arithmetic A} {number allowance : ℕ} {t : List A} {
 
       same-turns : beside (turnOf F t share) number ds (queuesOf cut flat) ≡ turns
       same-turns = ap (beside (turnOf F t share) number ds) same-queues
+
+      -- what the loop left, by the turns over the queues
+      left : List (Turned A) → Worked A
+      left us = record {
+        sum = over (joined (map (λ u. u .sum) us)) (flat .sum);
+        difference = over (joined (map (λ u. u .difference) us)) (flat .difference);
+        decoders = over (map (λ u. u .pll) us) ds;
+      }
+
+      worked : {X : Type 0} (f : Worked A → X) → f (record { sum = sum; difference = difference; decoders = next }) ≡ f (left turns)
+      worked f = ap f ew ∙ ap (λ (us : List (Turned A)). f (left us)) same-turns
 
       long : AsLong (map (λ u. u .sum) turns) (map (λ q. q .sum) qs) × AsLong (map (λ u. u .difference) turns) (map (λ q. q .difference) qs)
       long = rw (← same-queues) (turns-long F t share number ds cut flat (agree h l .1))

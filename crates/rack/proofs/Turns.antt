@@ -137,7 +137,11 @@ module _ {A : Type 0} (F : Arithmetic A) (t : List A) (share : ℕ) where
   turns-long (suc n) (d ∷ ds) (w ∷ ws) flat h =
       let a = h .0 in
       let m = length-take-le (w .mpx) (flat .mpx) (a .in-mpx) in
-      let l = turn-long F t share d (frontOf w flat) (front (flat .sum) (w .sum) (w .mpx) (a .sum) (a .in-sum) m) (front (flat .difference) (w .difference) (w .mpx) (a .difference) (a .in-difference) m) in
+      let l =
+      turn-long F t share d (frontOf w flat)
+      (front (flat .sum) (w .sum) (w .mpx) (a .sum) (a .in-sum) m)
+      (front (flat .difference) (w .difference) (w .mpx) (a .difference) (a .in-difference) m)
+      in
       let r = turns-long n ds ws (pastOf w flat) (rw (left-waiting w flat) (h .1)) in (
         (l .0, r .0),
         (l .1, r .1),

@@ -41,6 +41,10 @@ pub record Inside {A : Type 0} (a : ℕ) (q : Queue A) : Type 0 where
   pub sum : a ≤ length (q .sum)
   pub difference : a ≤ length (q .difference)
 
+-- a block on the first n samples of a queue
+abbrev blockOn : {A : Type 0} → Arithmetic A → List A → Pll A → ℕ → Queue A → Blocked A
+blockOn F t d n q = blockOf F d t (take n (q .mpx)) (take n (q .pilot)) (take n (q .sum)) (take n (q .difference))
+
 module _ {A : Type 0} (F : Arithmetic A) (share : ℕ) (t : List A) (ds₀ : List (Pll A)) (parts : List Waiting) (flat : Queue A) where
   abbrev turns : ℕ → List (Turned A)
   turns k = beside (turnOf F t share) k ds₀ (queuesOf parts flat)
@@ -165,9 +169,12 @@ module _ {A : Type 0} {F : Arithmetic A} {number share : ℕ} {t : List A} {ds�
           ∙ sym (getD-drop k (queuesOf parts flat) 0 q)
           ∙ ap (λ (l : List (Queue A)). getD l 0 q) queues-here
 
+      -- what was lent of the four lists, as they are by now
+      abbrev lent : Queue A
+      lent = record { mpx = drop a (flat .mpx); pilot = drop a (flat .pilot); sum = drop a ys; difference = drop a zs }
+
       module _ (d : Pll A) (hd : k < length ds₀) (n : ℕ) (en : n ≡ min share m) {s : Said} {vy vz : List A} {p : Pll A}
-          (b : record { said = s; sum = vy; difference = vz; pll = p }
-          ≡ blockOf F (getD ds k d) t (take (a + n - a) (drop a (flat .mpx))) (take (a + n - a) (drop a (flat .pilot))) (take (a + n - a) (drop a ys)) (take (a + n - a) (drop a zs)))
+          (b : record { said = s; sum = vy; difference = vz; pll = p } ≡ blockOn F t (getD ds k d) (a + n - a) lent)
           (ly : length vy ≡ length (take (a + n - a) (drop a ys))) (lz : length vz ≡ length (take (a + n - a) (drop a zs))) where
         n-part : a + n - a ≡ n
         n-part = omega arith
@@ -175,10 +182,13 @@ module _ {A : Type 0} {F : Arithmetic A} {number share : ℕ} {t : List A} {ds�
         small : n ≤ m
         small = omega (arith, en)
 
+        done : length (plls F share t ds₀ parts flat k) ≡ k
+        done =
+            length-map (turns F share t ds₀ parts flat k) (λ u. u .pll)
+            ∙ length-beside (turnOf F t share) k ds₀ (queuesOf parts flat) (omega arith) (omega (arith, length-queues parts flat))
+
         same-decoder : getD ds k d ≡ getD ds₀ k d
-        same-decoder =
-            ap (λ (l : List (Pll A)). getD l k d) (i .decoders)
-            ∙ over-get (plls F share t ds₀ parts flat k) ds₀ k d (length-map (turns F share t ds₀ parts flat k) (λ u. u .pll) ∙ length-beside (turnOf F t share) k ds₀ (queuesOf parts flat) (omega arith) (omega (arith, length-queues parts flat)))
+        same-decoder = ap (λ (l : List (Pll A)). getD l k d) (i .decoders) ∙ over-get (plls F share t ds₀ parts flat k) ds₀ k d done
 
         same-sum : drop a ys ≡ drop a (flat .sum)
         same-sum = ap (drop a) (i .sum) ∙ over-drop (sums F share t ds₀ parts flat k) (flat .sum) a (i .sum-long)
@@ -193,27 +203,42 @@ module _ {A : Type 0} {F : Arithmetic A} {number share : ℕ} {t : List A} {ds�
         took : min share (length (take m (drop a (flat .mpx)))) ≡ n
         took = ap (min share) (length-take-le m (drop a (flat .mpx)) (alike .in-mpx)) ∙ sym en
 
-        taken-block : blockOf F (getD ds₀ k d) t (take n (take m (drop a (flat .mpx)))) (take n (take (w .pilot) (drop a (flat .pilot)))) (take n (take (w .sum) (drop a (flat .sum)))) (take n (take (w .difference) (drop a (flat .difference))))
-            ≡ record { said = s; sum = vy; difference = vz; pll = p }
-        taken-block =
+        -- its turn, and what that leaves
+        abbrev own : Queue A
+        own = frontOf w (beyond a flat)
+
+        abbrev after : Turned A
+        after = record {
+          taken = n;
+          sum = over vy (take m (drop a (flat .sum)));
+          difference = over vz (take m (drop a (flat .difference)));
+          pll = p;
+        }
+
+        same-block : blockOn F t (getD ds₀ k d) n own ≡ record { said = s; sum = vy; difference = vz; pll = p }
+        same-block =
             (λ j. blockOf F (sym same-decoder j) t (cut (drop a (flat .mpx)) m refl j) (cut (drop a (flat .pilot)) (w .pilot) (alike .pilot) j)
             ((cut (drop a (flat .sum)) (w .sum) (alike .sum) ∙ ap (take (a + n - a)) (sym same-sum)) j)
             ((cut (drop a (flat .difference)) (w .difference) (alike .difference) ∙ ap (take (a + n - a)) (sym same-difference)) j))
             ∙ sym b
 
-        turn-is : (q : Queue A) → turnOf F t share (getD ds₀ k d) (getD (queuesOf parts flat) k q)
-            ≡ record { taken = n; sum = over vy (take m (drop a (flat .sum))); difference = over vz (take m (drop a (flat .difference))); pll = p }
+        turn-is : (q : Queue A) → turnOf F t share (getD ds₀ k d) (getD (queuesOf parts flat) k q) ≡ after
         unfolding turnOf
         turn-is q =
             ap (turnOf F t share (getD ds₀ k d)) (queue-is q)
-            ∙ ap (λ (z : ℕ). of z (blockOf F (getD ds₀ k d) t (take z (take m (drop a (flat .mpx)))) (take z (take (w .pilot) (drop a (flat .pilot)))) (take z (take (w .sum) (drop a (flat .sum)))) (take z (take (w .difference) (drop a (flat .difference)))))) took
-            ∙ ap (of n) taken-block
-            ∙ (λ j. record { taken = n; sum = over vy (take (alike .sum j) (drop a (flat .sum))); difference = over vz (take (alike .difference j) (drop a (flat .difference))); pll = p })
+            ∙ ap (λ (z : ℕ). of z (blockOn F t (getD ds₀ k d) z own)) took
+            ∙ ap (of n) same-block
+            ∙ (λ j. record {
+              taken = n;
+              sum = over vy (take (alike .sum j) (drop a (flat .sum)));
+              difference = over vz (take (alike .difference j) (drop a (flat .difference)));
+              pll = p;
+            })
           where
             of : ℕ → Blocked A → Turned A
-            of z o = record { taken = z; sum = over (o .sum) (take (w .sum) (drop a (flat .sum))); difference = over (o .difference) (take (w .difference) (drop a (flat .difference))); pll = o .pll }
+            of z o = record { taken = z; sum = over (o .sum) (own .sum); difference = over (o .difference) (own .difference); pll = o .pll }
 
-        turns-next : (q : Queue A) → turns F share t ds₀ parts flat (k + 1) ≡ turns F share t ds₀ parts flat k ++ (record { taken = n; sum = over vy (take m (drop a (flat .sum))); difference = over vz (take m (drop a (flat .difference))); pll = p } ∷ [])
+        turns-next : (q : Queue A) → turns F share t ds₀ parts flat (k + 1) ≡ turns F share t ds₀ parts flat k ++ (after ∷ [])
         turns-next q =
             ap (turns F share t ds₀ parts flat) (add-one k)
             ∙ beside-more (turnOf F t share) k ds₀ (queuesOf parts flat) d q hd (omega (arith, length-queues parts flat))
@@ -221,9 +246,6 @@ module _ {A : Type 0} {F : Arithmetic A} {number share : ℕ} {t : List A} {ds�
 
         none : Queue A
         none = record { mpx = []; pilot = []; sum = []; difference = [] }
-
-        abbrev after : Turned A
-        after = record { taken = n; sum = over vy (take m (drop a (flat .sum))); difference = over vz (take m (drop a (flat .difference))); pll = p }
 
         signal-next : (f : Turned A → List A) → joined (map f (turns F share t ds₀ parts flat (k + 1))) ≡ joined (map f (turns F share t ds₀ parts flat k)) ++ f after
         signal-next f =
@@ -243,10 +265,17 @@ module _ {A : Type 0} {F : Arithmetic A} {number share : ℕ} {t : List A} {ds�
               more-long u v l a n m eu lv small hm,
             )
 
-        pub working-next : Working F share t ds₀ parts flat number (k + 1) (a + m) (take a ys ++ (vy ++ drop (a + n - a) (drop a ys))) (take a zs ++ (vz ++ drop (a + n - a) (drop a zs))) (set ds k p)
+        -- the flat output after it
+        abbrev put : List A → List A → List A
+        put out v = take a out ++ (v ++ drop (a + n - a) (drop a out))
+
+        pub working-next : Working F share t ds₀ parts flat number (k + 1) (a + m) (put ys vy) (put zs vz) (set ds k p)
         working-next =
             let y = came (sums F share t ds₀ parts flat k) (flat .sum) ys vy (i .sum) (i .sum-long) ly (i .inside .sum) (alike .in-sum) in
-            let z = came (differences F share t ds₀ parts flat k) (flat .difference) zs vz (i .difference) (i .difference-long) lz (i .inside .difference) (alike .in-difference) in
+            let z =
+            came (differences F share t ds₀ parts flat k) (flat .difference) zs vz (i .difference) (i .difference-long) lz (i .inside .difference)
+            (alike .in-difference)
+            in
             let es = signal-next (λ u. u .sum) in
             let ed = signal-next (λ u. u .difference) in
             record {
@@ -260,6 +289,10 @@ module _ {A : Type 0} {F : Arithmetic A} {number share : ℕ} {t : List A} {ds�
               difference = z .0 ∙ ap (λ (l : List A). over l (flat .difference)) (sym ed);
               decoders =
                   ap (λ (l : List (Pll A)). set l k p) (i .decoders)
-                  ∙ over-set (plls F share t ds₀ parts flat k) ds₀ p k (length-map (turns F share t ds₀ parts flat k) (λ u. u .pll) ∙ length-beside (turnOf F t share) k ds₀ (queuesOf parts flat) (omega arith) (omega (arith, length-queues parts flat))) hd
-                  ∙ ap (λ (l : List (Pll A)). over l ds₀) (sym (ap (map (λ u. u .pll)) (turns-next none) ∙ map-append (λ u. u .pll) (turns F share t ds₀ parts flat k) (after ∷ [])));
+                  ∙ over-set (plls F share t ds₀ parts flat k) ds₀ p k done hd
+                  ∙ ap (λ (l : List (Pll A)). over l ds₀) (sym decoders-next);
             }
+          where
+            decoders-next : plls F share t ds₀ parts flat (k + 1) ≡ plls F share t ds₀ parts flat k ++ (p ∷ [])
+            decoders-next =
+                ap (map (λ u. u .pll)) (turns-next none) ∙ map-append (λ u. u .pll) (turns F share t ds₀ parts flat k) (after ∷ [])

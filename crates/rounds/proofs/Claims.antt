@@ -20,12 +20,13 @@ use Rattle.decoder_q15.specs.Q15.{q15}
 use Rattle.calls.specs.Calls.{Brought}
 use Rattle.calls.proofs.Steps.{saysOf, block-said, block-ran}
 use Rattle.rack.specs.Round.{turnOf}
-use Rattle.rounds.specs.Rounds.{Asked, shareOf, Eight, none, Decoded, decodedOf, roundsFor, askedOf, after, acceptedIn, Brings, takenIn, sumsIn, differencesIn, OneRound, Served, NoStarving}
+use Rattle.rounds.specs.Rounds.{Asked, shareOf, Eight, none, Decoded, decodedOf, roundsFor, askedOf, after, acceptedIn, Brings, takenIn, sumsIn, differencesIn, OneRound, Served, NoStarving, SomeRounds}
 use Rattle.rounds.proofs.Places as places
 use Rattle.rounds.proofs.InPlace as in-place
 use Rattle.rounds.proofs.Runs.{first-run}
 use Rattle.rounds.specs.Fit.{FitAlways}
 use Rattle.rounds.proofs.Fits.{fit-always}
+use Rattle.rounds.proofs.Witness.{some-rounds}
 use Rattle.rounds.proofs.Lists.{all-worked, not-yet, Going, going}
 
 module _ {A : Type 0} (F : Arithmetic A) where
@@ -103,7 +104,8 @@ pub record Request6 : Type 0 where
   pub q15-round : OneRound q15
   pub f32-lists : NoStarving f32
   pub q15-lists : NoStarving q15
+  pub f32-some : SomeRounds f32
   pub q15-fit : FitAlways
 
 pub request6 : Request6
-request6 = record { f32-round = one-round f32; q15-round = one-round q15; f32-lists = no-starving f32; q15-lists = no-starving q15; q15-fit = fit-always }
+request6 = record { f32-round = one-round f32; q15-round = one-round q15; f32-lists = no-starving f32; q15-lists = no-starving q15; f32-some = λ ds first k m x p hk h2 h8 ha ht hp. some-rounds first k x p hk h2 h8 ha ht hp m ds; q15-fit = fit-always }

@@ -3,4 +3,5 @@ pub mod Runs
 pub mod Lists
 pub mod InPlace
 pub mod Fits
+pub mod Witness
 pub mod Claims

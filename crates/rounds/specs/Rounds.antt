@@ -5,7 +5,7 @@ use mathlib.Core.Bool.{true, false, cond}
 use mathlib.Core.List.{List, [], _∷_, _++_, map}
 use mathlib.Core.Path.{_≡_}
 use lib.ListN.{length, take, drop, getD}
-use Rattle.answers.specs.Answer.{accepts}
+use Rattle.answers.specs.Answer.{accepts, entries}
 use Rattle.decoder_record.specs.State.{Pll}
 use Rattle.decoder.specs.Machine.{Arithmetic, Blocked, runOf, blockOf}
 use Rattle.rack_waiting.specs.declared.Waiting.{Waiting}
@@ -146,3 +146,11 @@ module _ {A : Type 0} (F : Arithmetic A) where
       → Eight ds → k < first .number → 0 < shareOf first → Brings first k mpx pilot 0 ds cs
       → Served (getD ds k z) (getD (after ds cs) k z) (first .table) mpx pilot (sumsIn k ds cs) (differencesIn k ds cs)
       (acceptedIn ds cs) (shareOf first) (takenIn k ds cs)
+
+  -- and this says something: such rounds may be accepted any number of times (in f32, where every record is fit)
+  abbrev pub SomeRounds : Type 0
+  SomeRounds =
+      (ds : List (Pll A)) (first : Asked A) (k m : ℕ) (mpx pilot : List A)
+      → k < 8 → 2 ≤ first .number → first .number ≤ 8 → first .number ≤ first .allowance
+      → length (first .table) ≡ entries → length pilot ≡ length mpx
+      → (cs : List (Asked A)) × Brings first k mpx pilot 0 ds cs × (acceptedIn ds cs ≡ m)

@@ -40,6 +40,9 @@ module _ (c : tie.After-is-accepted) where
       Answered f32 (a .number) (a .allowance) (a .table .now) ds (a .waiting) flat (says (c .before .round-answer .result)) (replicate 8 true) (c .before .before .parts .result)
   answered = record { places = eight ∙ sym waits; parts = c .before .before .parts .ensures; fit = constant true 8 ds eight; answer = c .before .round-answer .ensures }
 
+  none-taken : replicate {A = ℕ} 8 0 ≡ map (λ (q : Queue Float). 0) (queuesOf (start .args .waiting) flat)
+  none-taken = constant {B = ℕ} 0 8 (queuesOf (start .args .waiting) flat) (length-queues (start .args .waiting) flat ∙ waits)
+
 pub round-spec : {M : Type 1} → statement M
 round-spec =
     tie.close
@@ -47,7 +50,7 @@ round-spec =
     (λ c κs. search needs)
     (λ c κs. search needs)
     (λ c κs. search needs)
-    (λ r. let c = r .before in refused (answered c) (failed (c .is-accepted .ensures) (r .if1 .taken)) (constant {B = ℕ} 0 8 (queuesOf (start c .args .waiting) (flat c)) (length-queues (start c .args .waiting) (flat c) ∙ waits c)))
+    (λ r. let c = r .before in refused (answered c) (failed (c .is-accepted .ensures) (r .if1 .taken)) (none-taken c))
     (λ r. let c = r .before in some (answered c) (passed (c .is-accepted .ensures) (r .if1 .left)))
     (λ r κs. let c = r .before .before .before in agree (answered c) (passed (c .is-accepted .ensures) (r .before .before .if1 .left)) refl)
     (λ c κs. search needs)

@@ -2,7 +2,7 @@ use Prim.Native.Nat.{ℕ}
 use mathlib.Core.Path.{_≡_, sym, ap, _∙_}
 use mathlib.Core.List.{List, map}
 use borrow.Author.Needs.{needs}
-use lib.ListN.{length, length-map}
+use lib.ListN.{length, replicate, length-map}
 use lib.IntN.{ℤ}
 use Rattle.answers.specs.Answer.{says}
 use Rattle.answers.proofs.Tests.{failed, passed}
@@ -42,6 +42,9 @@ module _ (c : tie.After-is-accepted) where
   fit-places : length (c .before .before .fit-records .result) ≡ 8
   fit-places = ap length (c .before .before .fit-records .ensures) ∙ length-map ds fitQ15 ∙ eight
 
+  none-taken : replicate {A = ℕ} 8 0 ≡ map (λ (q : Queue ℤ). 0) (queuesOf (start .args .waiting) flat)
+  none-taken = constant {B = ℕ} 0 8 (queuesOf (start .args .waiting) flat) (length-queues (start .args .waiting) flat ∙ waits)
+
 pub round-spec : {M : Type 1} → statement M
 round-spec =
     tie.close
@@ -50,7 +53,7 @@ round-spec =
     (λ c κs. search needs)
     (λ c κs. search needs)
     (λ c κs. search needs)
-    (λ r. let c = r .before in refused (answered c) (failed (c .is-accepted .ensures) (r .if1 .taken)) (constant {B = ℕ} 0 8 (queuesOf (start c .args .waiting) (flat c)) (length-queues (start c .args .waiting) (flat c) ∙ waits c)))
+    (λ r. let c = r .before in refused (answered c) (failed (c .is-accepted .ensures) (r .if1 .taken)) (none-taken c))
     (λ r. let c = r .before in some (answered c) (passed (c .is-accepted .ensures) (r .if1 .left)))
     (λ r κs. let c = r .before .before .before in agree (answered c) (passed (c .is-accepted .ensures) (r .before .before .if1 .left)) (fit-places c))
     (λ c κs. search needs)
