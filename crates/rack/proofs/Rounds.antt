@@ -4,7 +4,7 @@ use mathlib.Core.Path.{_≡_, refl, sym, ap, _∙_}
 use mathlib.Core.Bool.{Bool, true, false, cond}
 use mathlib.Core.List.{List, [], _∷_, map, map-map}
 use native.Mathlib.Omega.{arith}
-use lib.ListN.{length, take, drop, length-take, length-drop}
+use lib.ListN.{length, length-take}
 use Rattle.answers.specs.Answer.{Said, accepts, kept, firstCause}
 use Rattle.decoder_record.specs.State.{Pll}
 use Rattle.decoder.specs.Machine.{Arithmetic}
@@ -13,7 +13,7 @@ use Rattle.rack_waiting.specs.Beside.{beside, over}
 use Rattle.rack_waiting.specs.Waiting.{causeOf, partOf, restOf, partsOf, roundSays, takenOf}
 use Rattle.rack_waiting.specs.Agreed.{Agreed}
 use Rattle.rack_waiting.proofs.Beside.{take-cut, drop-cut}
-use Rattle.rack_waiting.proofs.Agreement.{Accepted, accepted-round, agreed-parts}
+use Rattle.rack_waiting.proofs.Agreement.{accepted-round, agreed-parts}
 use Rattle.rack.specs.Round.{Queue, waitingOf, Turned, turnOf, roundOf}
 use Rattle.rack.specs.Flat.{frontOf, pastOf, queuesOf, joined, Flat, flatOf, Worked, workedOf}
 use Rattle.rack.proofs.Working.{length-queues}

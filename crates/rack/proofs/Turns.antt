@@ -13,9 +13,9 @@ use Rattle.decoder.specs.Machine.{Arithmetic, Blocked, stepAt, runOf, blockSays
 use Rattle.rack_waiting.specs.declared.Waiting.{Waiting}
 use Rattle.rack_waiting.specs.Beside.{beside, over}
 use Rattle.rack_waiting.specs.Waiting.{restOf, takesOf}
-use Rattle.rack_waiting.specs.Agreed.{Alike, Agreed}
+use Rattle.rack_waiting.specs.Agreed.{Agreed}
 use Rattle.rack_waiting.proofs.Beside.{drop-cut, over-length}
-use Rattle.rack.specs.Round.{Queue, waitingOf, Turned, turnOf}
+use Rattle.rack.specs.Round.{Queue, waitingOf, turnOf}
 use Rattle.rack.specs.Flat.{frontOf, pastOf, queuesOf, joined}
 
 -- what is left past a part

@@ -1,6 +1,6 @@
 -- The loop over a rack's decoders, over the format: the first k have had their turn, and their parts end at a.
 -- Assumes nothing.
-use Prim.Native.Nat.{ℕ, zero, suc, _+_, _-_, _≤_, _<_, min}
+use Prim.Native.Nat.{ℕ, suc, _+_, _-_, _≤_, _<_, min}
 use native.Mathlib.Nat.{sub-zero}
 use native.Mathlib.Numerals.{add-one}
 use native.Mathlib.Omega.{arith}
@@ -18,7 +18,7 @@ use Rattle.rack_waiting.specs.Agreed.{Alike, Agreed}
 use Rattle.rack_waiting.proofs.Beside.{beside-more, length-beside, over-length, over-set}
 use Rattle.rack_waiting.proofs.Agreement.{agreed-next}
 use Rattle.rack.specs.Round.{Queue, waitingOf, Turned, turnOf}
-use Rattle.rack.specs.Flat.{frontOf, pastOf, queuesOf, joined, Worked, workedOf}
+use Rattle.rack.specs.Flat.{frontOf, pastOf, queuesOf, joined, workedOf}
 use Rattle.rack.proofs.Parts.{over-drop, over-get, over-lent, more-long, joined-more}
 
 pub length-queues : {A : Type 0} (ws : List Waiting) (flat : Queue A) → length (queuesOf ws flat) ≡ length ws

@@ -2,14 +2,14 @@
 use Prim.Native.Nat.{ℕ, zero, suc, _+_, _-_, _≤_, _<_, min}
 use native.Mathlib.Numerals.{add-one}
 use native.Mathlib.Omega.{arith}
-use mathlib.Core.Path.{_≡_, refl, sym, ap, _∙_}
+use mathlib.Core.Path.{_≡_, refl}
 use mathlib.Core.Bool.{Bool, true, _&&_}
 use mathlib.Core.List.{List, [], _∷_}
 use borrow.Author.Tests.{leb-true}
 use lib.Dec.{leb}
 use lib.ListN.{length, drop, getD}
 use lib.Seq.{drop-cons}
-use Rattle.answers.specs.Answer.{Said, accepts, rule, firstCause}
+use Rattle.answers.specs.Answer.{accepts, rule, firstCause}
 use Rattle.answers.proofs.Causes.{both, rule-passed}
 use Rattle.answers.proofs.Tests.{and-out}
 use Rattle.decoder.specs.Machine.{lengthCauses}

@@ -4,9 +4,9 @@ use native.Mathlib.Nat.{zero-min, suc-min-suc}
 use native.Mathlib.Numerals.{add-one}
 use native.Mathlib.Omega.{arith}
 use mathlib.Core.Path.{_≡_, refl, sym, ap, _∙_}
-use mathlib.Core.List.{List, [], _∷_, _++_, map, append-assoc}
+use mathlib.Core.List.{List, [], _∷_, _++_, append-assoc}
 use lib.ListN.{length, take, drop, getD, set, length-append, length-drop}
-use lib.Seq.{take-nil, take-suc, drop-cons, drop-nil, set-at}
+use lib.Seq.{take-nil, drop-cons, drop-nil, set-at}
 use Rattle.rack_waiting.specs.Beside.{beside, over}
 
 module _ {A B C : Type 0} (f : A → B → C) where

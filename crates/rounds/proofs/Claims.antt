@@ -1,14 +1,12 @@
 -- Request 6: its claims hold for any arithmetic, and so for both formats. Assumes nothing.
-use Prim.Native.Nat.{ℕ, _+_, _*_, _≤_, _<_, min}
+use Prim.Native.Nat.{ℕ, _*_, _≤_, _<_, min}
 use native.Mathlib.Nat.{zero-add}
 use native.Mathlib.Omega.{arith}
 use mathlib.Core.Path.{_≡_, refl, sym, ap, _∙_}
 use mathlib.Core.Bool.{true}
-use mathlib.Core.List.{List, [], _∷_}
-use lib.ListN.{length, take, drop, getD}
+use mathlib.Core.List.{List}
+use lib.ListN.{length, take, getD}
 use lib.Seq.{take-all}
-use lib.IntN.{ℤ}
-use lib.Ieee.{Float}
 use Rattle.answers.specs.Answer.{accepts, rule, firstCause}
 use Rattle.answers.specs.Samples.{samples}
 use Rattle.answers.proofs.Causes.{both, none-yet}
@@ -20,14 +18,14 @@ use Rattle.decoder_q15.specs.Q15.{q15}
 use Rattle.calls.specs.Calls.{Brought}
 use Rattle.calls.proofs.Steps.{saysOf, block-said, block-ran}
 use Rattle.rack.specs.Round.{turnOf}
-use Rattle.rounds.specs.Rounds.{Asked, shareOf, Eight, none, Decoded, decodedOf, roundsFor, askedOf, after, acceptedIn, Brings, takenIn, sumsIn, differencesIn, OneRound, Served, NoStarving, SomeRounds}
+use Rattle.rounds.specs.Rounds.{shareOf, decodedOf, after, acceptedIn, takenIn, sumsIn, differencesIn, OneRound, Served, NoStarving, SomeRounds}
 use Rattle.rounds.proofs.Places as places
 use Rattle.rounds.proofs.InPlace as in-place
 use Rattle.rounds.proofs.Runs.{first-run}
 use Rattle.rounds.specs.Fit.{FitAlways}
 use Rattle.rounds.proofs.Fits.{fit-always}
 use Rattle.rounds.proofs.Witness.{some-rounds}
-use Rattle.rounds.proofs.Lists.{all-worked, not-yet, Going, going}
+use Rattle.rounds.proofs.Lists.{all-worked, not-yet, going}
 
 module _ {A : Type 0} (F : Arithmetic A) where
   pub one-round : OneRound F
@@ -93,7 +91,8 @@ module _ {A : Type 0} (F : Arithmetic A) where
       let n = acceptedIn F ds cs in
       let m = takenIn F k ds cs in
       let g = going F z d first k x p hk cs 0 ds (omega arith) e8 (start d (first .table) x p) b in
-      served d (getD (after F ds cs) k z) (first .table) x p (sumsIn F k ds cs) (differencesIn F k ds cs) n s m hs (sym (zero-add m) ∙ g .count ∙ ap (λ (q : ℕ). min q (length x)) (zero-add (n * s)))
+      served d (getD (after F ds cs) k z) (first .table) x p (sumsIn F k ds cs) (differencesIn F k ds cs) n s m hs
+      (sym (zero-add m) ∙ g .count ∙ ap (λ (q : ℕ). min q (length x)) (zero-add (n * s)))
       (g .state ∙ ap (stateAt F (first .table) x p d) (zero-add m))
       (g .sum ∙ (λ i. samples m (λ l. stepAt F (first .table) x p d (zero-add l i) .sum)))
       (g .difference ∙ (λ i. samples m (λ l. stepAt F (first .table) x p d (zero-add l i) .difference)))
@@ -108,4 +107,11 @@ pub record Request6 : Type 0 where
   pub q15-fit : FitAlways
 
 pub request6 : Request6
-request6 = record { f32-round = one-round f32; q15-round = one-round q15; f32-lists = no-starving f32; q15-lists = no-starving q15; f32-some = λ ds first k m x p hk h2 h8 ha ht hp. some-rounds first k x p hk h2 h8 ha ht hp m ds; q15-fit = fit-always }
+request6 = record {
+  f32-round = one-round f32;
+  q15-round = one-round q15;
+  f32-lists = no-starving f32;
+  q15-lists = no-starving q15;
+  f32-some = λ ds first k m x p hk h2 h8 ha ht hp. some-rounds first k x p hk h2 h8 ha ht hp m ds;
+  q15-fit = fit-always;
+}

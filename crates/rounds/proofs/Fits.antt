@@ -1,22 +1,21 @@
 -- Q15: a record that is fit stays fit over every list of rounds. Assumes nothing.
 use Prim.Native.Nat.{ℕ, zero, suc, min}
 use native.Mathlib.Omega.{arith}
-use mathlib.Core.Path.{_≡_, refl, sym, ap, _∙_}
+use mathlib.Core.Path.{_≡_, refl}
 use mathlib.Core.Bool.{Bool, true, false}
-use mathlib.Core.List.{List, [], _∷_, _++_, map}
-use lib.ListN.{length, take, drop, getD}
+use mathlib.Core.List.{List, [], _∷_, map}
+use lib.ListN.{length, take, getD}
 use lib.IntN.{ℤ, pos}
 use mir.Syntax.{w16}
 use mir.Val.{SFits}
 use Rattle.answers.specs.Answer.{Said, accepted, turned, lengths, accepts, kept}
 use Rattle.decoder_record.specs.State.{Pll}
-use Rattle.decoder_record_q15.specs.Fit.{fitQ15}
 use Rattle.decoder_record_q15.proofs.Fresh.{fit-new}
-use Rattle.decoder.specs.Machine.{Blocked, stateAt, runOf, blockSays, blockOf}
+use Rattle.decoder.specs.Machine.{stateAt, runOf, blockSays, blockOf}
 use Rattle.decoder_q15.specs.Q15.{q15}
 use Rattle.decoder_q15.proofs.Kept.{fit-next}
 use Rattle.rack_waiting.specs.Beside.{beside, over}
-use Rattle.rack.specs.Round.{Queue, Turned, turnOf, Rounded}
+use Rattle.rack.specs.Round.{Queue, turnOf}
 use Rattle.rounds.specs.Rounds.{Asked, shareOf, askedOf, after}
 use Rattle.rounds.specs.Fit.{All, Fresh, Fit, Pilots16, FitAlways}
 use Rattle.rounds.proofs.Places.{by-turns}

@@ -1,21 +1,21 @@
 -- In flat lists the outputs of a round lie where its queues lay, over the format. Assumes nothing.
-use Prim.Native.Nat.{ℕ, _+_, _-_, _/_, _≤_, _<_, min}
+use Prim.Native.Nat.{ℕ, _+_, _-_, _≤_, min}
 use native.Mathlib.Omega.{arith}
 use mathlib.Core.Path.{_≡_, refl, sym, ap, _∙_}
-use mathlib.Core.Bool.{Bool, true, false, cond}
+use mathlib.Core.Bool.{Bool, true, false}
 use mathlib.Core.List.{List, [], _∷_, _++_, map}
 use lib.ListN.{length, take, drop, length-map, length-append, length-take, length-drop}
 use lib.Seq.{take-at, drop-at}
-use Rattle.answers.specs.Answer.{Said, accepts, kept, firstCause}
+use Rattle.answers.specs.Answer.{accepts, firstCause}
 use Rattle.decoder_record.specs.State.{Pll}
 use Rattle.decoder.specs.Machine.{Arithmetic}
 use Rattle.rack_waiting.specs.declared.Waiting.{Waiting}
 use Rattle.rack_waiting.specs.Beside.{beside, over}
-use Rattle.rack_waiting.specs.Waiting.{causeOf, partsOf, roundSays}
+use Rattle.rack_waiting.specs.Waiting.{causeOf, partsOf}
 use Rattle.rack_waiting.proofs.Beside.{take-cut, drop-cut, over-length}
-use Rattle.rack_waiting.proofs.Agreement.{Accepted, accepted-round, agreed-parts}
-use Rattle.rack.specs.Round.{Queue, waitingOf, Turned, turnOf, Rounded, roundOf}
-use Rattle.rack.specs.Flat.{pastOf, queuesOf, joined, flatOf}
+use Rattle.rack_waiting.proofs.Agreement.{accepted-round, agreed-parts}
+use Rattle.rack.specs.Round.{Queue, waitingOf, Turned, turnOf}
+use Rattle.rack.specs.Flat.{queuesOf, joined, flatOf}
 use Rattle.rack.proofs.Turns.{cutBy, AsLong, over-append, past-front, queues-sums, queues-differences, turns-long}
 use Rattle.rack.proofs.Rounds.{queues-waiting, queues-cut}
 use Rattle.rounds.specs.Rounds.{Asked, shareOf, Eight, askedOf}
@@ -109,5 +109,6 @@ module _ {A : Type 0} (F : Arithmetic A) (number allowance : ℕ) (t : List A) (
   unfolding flatOf
   in-place = (
     queues-sums ws later ∙ cut-joined (askedOf F ds c .sums) (map (λ w. w .sum) ws) (flat .sum) (rw (queues-sums ws flat) at sums-just),
-    queues-differences ws later ∙ cut-joined (askedOf F ds c .differences) (map (λ w. w .difference) ws) (flat .difference) (rw (queues-differences ws flat) at differences-just),
+    queues-differences ws later
+        ∙ cut-joined (askedOf F ds c .differences) (map (λ w. w .difference) ws) (flat .difference) (rw (queues-differences ws flat) at differences-just),
   )

@@ -1,25 +1,22 @@
 -- Over lists of rounds a decoder works its samples at its own pace, over the format. Assumes nothing.
-use Prim.Native.Nat.{ℕ, zero, suc, _+_, _-_, _*_, _/_, _%_, _≤_, _<_, min}
+use Prim.Native.Nat.{ℕ, suc, _+_, _-_, _*_, _/_, _%_, _≤_, _<_, min}
 use native.Mathlib.Nat.{zero-add, add-zero, add-assoc, zero-mul, suc-mul, mod-lt, div-add-mod', mul-le-mul-right}
 use native.Mathlib.Omega.{arith}
 use mathlib.Core.Path.{_≡_, refl, sym, ap, _∙_}
 use mathlib.Core.Bool.{Bool, true, false, cond}
 use mathlib.Core.List.{List, [], _∷_, _++_, map}
 use lib.ListN.{length, take, drop, getD, length-map, length-drop}
-use lib.Seq.{take-length, take-all}
-use Rattle.answers.specs.Answer.{Said, accepts, rule, firstCause}
+use Rattle.answers.specs.Answer.{accepts}
 use Rattle.answers.specs.Samples.{samples}
-use Rattle.answers.proofs.Causes.{both, none-yet}
 use Rattle.decoder_record.specs.State.{Pll}
-use Rattle.decoder.specs.Machine.{Arithmetic, Stepped, Blocked, stateAt, stepAt, runOf, lengthCauses, blockOf}
-use Rattle.decoder.proofs.Loops.{lengths-equal}
-use Rattle.calls.proofs.Steps.{saysOf, block-said, block-ran}
+use Rattle.decoder.specs.Machine.{Arithmetic, Stepped, stateAt, stepAt}
+use Rattle.calls.proofs.Steps.{saysOf}
 use Rattle.rack_waiting.specs.Beside.{beside}
 use Rattle.rack_waiting.proofs.Beside.{over-length}
-use Rattle.rack.specs.Round.{Queue, Turned, turnOf, Rounded, roundOf}
-use Rattle.rounds.specs.Rounds.{Asked, shareOf, Eight, none, leavesAt, untouchedAt, Decoded, decodedOf, roundsFor, askedOf, after, acceptedIn, Brings, takenIn, sumsIn, differencesIn, Served}
+use Rattle.rack.specs.Round.{Queue, Turned, turnOf, Rounded}
+use Rattle.rounds.specs.Rounds.{Asked, shareOf, Eight, none, leavesAt, untouchedAt, askedOf, after, acceptedIn, Brings, takenIn, sumsIn, differencesIn}
 use Rattle.rounds.proofs.Places.{beside-short, by-turns, refused, alone, own-accepted}
-use Rattle.rounds.proofs.Runs.{samples-split, state-split, step-split, first-run, broughtOf, turn-taken, turn-pll, turn-sum, turn-difference}
+use Rattle.rounds.proofs.Runs.{samples-split, state-split, step-split, broughtOf, turn-taken, turn-pll, turn-sum, turn-difference}
 
 -- ---- numbers
 -- n samples before, j more in an accepted round, then m' in a' rounds of q = a' * s samples at most
@@ -56,7 +53,9 @@ round-eight {A} F ds c e8 = by (accepts (askedOf F ds c .said)) refl
     long us h = over-length (map (λ u. u .pll) us) ds (omega (arith, length-map us (λ u. u .pll))) ∙ e8
 
     by : (b : Bool) → accepts (askedOf F ds c .said) ≡ b → Eight (askedOf F ds c .decoders)
-    by true e = ap (λ (r : Rounded A). length (r .decoders)) (by-turns F ds c true e) ∙ long (beside (turnOf F (c .table) (shareOf c)) (c .number) ds (c .queues)) (beside-short (turnOf F (c .table) (shareOf c)) (c .number) ds (c .queues))
+    by true e =
+        ap (λ (r : Rounded A). length (r .decoders)) (by-turns F ds c true e)
+        ∙ long (beside (turnOf F (c .table) (shareOf c)) (c .number) ds (c .queues)) (beside-short (turnOf F (c .table) (shareOf c)) (c .number) ds (c .queues))
     by false e = ap (λ (r : Rounded A). length (r .decoders)) (by-turns F ds c false e) ∙ e8
 
 module _ {A : Type 0} (F : Arithmetic A) (z d₀ : Pll A) (first : Asked A) (k : ℕ) (mpx pilot : List A) (hk : k < first .number) where
@@ -135,7 +134,9 @@ module _ {A : Type 0} (F : Arithmetic A) (z d₀ : Pll A) (first : Asked A) (k :
           ∙ (λ i. stateAt F (et i) (ex i) (ep i) (hd i) (takes i))
           ∙ state-split F t mpx pilot d₀ n j
 
-      steps : (f : Stepped A → A) → samples (min (shareOf c) (length (q .mpx))) (λ i. f (stepAt F (c .table) (q .mpx) (q .pilot) (getD ds k z) i)) ≡ samples j (λ i. f (stepAt F t mpx pilot d₀ (n + i)))
+      steps : (f : Stepped A → A)
+          → samples (min (shareOf c) (length (q .mpx))) (λ i. f (stepAt F (c .table) (q .mpx) (q .pilot) (getD ds k z) i))
+          ≡ samples j (λ i. f (stepAt F t mpx pilot d₀ (n + i)))
       steps f =
           (λ i. samples (takes i) (λ l. f (stepAt F (et i) (ex i) (ep i) (hd i) l)))
           ∙ (λ i. samples j (λ l. f (step-split F t mpx pilot d₀ n l i)))
@@ -157,7 +158,8 @@ module _ {A : Type 0} (F : Arithmetic A) (z d₀ : Pll A) (first : Asked A) (k :
           (by-min taken-is)
         where
           side : (g : Turned A → List A) (f : Stepped A → A)
-              → take (min (shareOf c) (length (q .mpx))) (g u) ≡ samples (min (shareOf c) (length (q .mpx))) (λ i. f (stepAt F (c .table) (q .mpx) (q .pilot) (getD ds k z) i))
+              → take (min (shareOf c) (length (q .mpx))) (g u)
+              ≡ samples (min (shareOf c) (length (q .mpx))) (λ i. f (stepAt F (c .table) (q .mpx) (q .pilot) (getD ds k z) i))
               → take (u .taken) (g u) ≡ samples (u .taken) (λ i. f (stepAt F t mpx pilot d₀ (n + i)))
           side g f e =
               ap (λ (l : ℕ). take l (g u)) (turn-taken F (c .table) (shareOf c) (getD ds k z) q own) ∙ e ∙ steps f
@@ -184,7 +186,10 @@ module _ {A : Type 0} (F : Arithmetic A) (z d₀ : Pll A) (first : Asked A) (k :
       let v = getD (r .taken) k 0 in
       let m = takenIn F k (r .decoders) cs in
       record {
-        count = i .count m (acceptedIn F (r .decoders) cs * s) (g .count) ∙ ap (λ (x : ℕ). min (n + x) (length mpx)) (times b (acceptedIn F (r .decoders) cs) ∙ ap (λ (y : Bool). (cond y 1 0 + acceptedIn F (r .decoders) cs) * s) (sym e));
+        count =
+            i .count m (acceptedIn F (r .decoders) cs * s) (g .count)
+            ∙ ap (λ (x : ℕ). min (n + x) (length mpx)) (times b (acceptedIn F (r .decoders) cs))
+            ∙ ap (λ (y : Bool). min (n + (cond y 1 0 + acceptedIn F (r .decoders) cs) * s) (length mpx)) (sym e);
         state = g .state ∙ ap (stateAt F t mpx pilot d₀) (add-assoc n v m);
         sum = further n v m (λ l. stepAt F t mpx pilot d₀ l .sum) _ _ (i .sum) (g .sum);
         difference = further n v m (λ l. stepAt F t mpx pilot d₀ l .difference) _ _ (i .difference) (g .difference);
@@ -210,7 +215,8 @@ module _ {A : Type 0} (F : Arithmetic A) (z d₀ : Pll A) (first : Asked A) (k :
       none-taken : {q : ℕ} → q ≡ 0 → n + 0 ≡ min (n + q) (length mpx)
       none-taken e = omega (arith, hn)
   going (c ∷ cs) n ds hn e8 hd b =
-      by (accepts (askedOf F ds c .said)) refl (λ hn' hd'. going cs (n + getD (askedOf F ds c .taken) k 0) (askedOf F ds c .decoders) hn' (round-eight F ds c e8) hd' (b .6))
+      by (accepts (askedOf F ds c .said)) refl
+      (λ hn' hd'. going cs (n + getD (askedOf F ds c .taken) k 0) (askedOf F ds c .decoders) hn' (round-eight F ds c e8) hd' (b .6))
     where
       -- the rounds after this one
       Later : Type 0

@@ -1,16 +1,15 @@
 -- What a round leaves at one place of a rack, over the format. Assumes nothing.
-use Prim.Native.Nat.{ℕ, zero, suc, _+_, _-_, _/_, _≤_, _<_}
+use Prim.Native.Nat.{ℕ, zero, suc, _+_, _-_, _≤_, _<_}
 use native.Mathlib.Omega.{arith}
 use mathlib.Core.Path.{_≡_, refl, sym, ap, _∙_}
 use mathlib.Core.Bool.{Bool, true, false, cond}
-use mathlib.Core.List.{List, [], _∷_, _++_, map}
-use lib.ListN.{length, take, drop, getD, length-map, List·getD-map, List·getD-append}
+use mathlib.Core.List.{List, [], _∷_, map}
+use lib.ListN.{length, drop, getD, length-map, List·getD-map, List·getD-append}
 use lib.Seq.{getD-append-add, getD-drop}
-use Rattle.answers.specs.Answer.{Said, accepts, kept, firstCause}
+use Rattle.answers.specs.Answer.{Said, accepts, firstCause}
 use Rattle.answers.proofs.Causes.{both}
 use Rattle.decoder_record.specs.State.{Pll}
 use Rattle.decoder.specs.Machine.{Arithmetic}
-use Rattle.rack_waiting.specs.declared.Waiting.{Waiting}
 use Rattle.rack_waiting.specs.Beside.{beside, over}
 use Rattle.rack_waiting.specs.Waiting.{causeOf, roundSays}
 use Rattle.rack_waiting.proofs.Beside.{length-beside}
@@ -100,14 +99,17 @@ module _ {A : Type 0} (F : Arithmetic A) (ds : List (Pll A)) (c : Asked A) where
   -- a place that has no turn
   bare : (z : Pll A) (us : List (Turned A)) (k : ℕ) → length us ≤ k → leavesAt z (left us) k ≡ untouchedAt z ds (c .queues) k
   bare z us k h = λ j. record {
-    taken = (over-back (map (λ u. u .taken) us) (map (λ q. 0) (c .queues)) k 0 (under (λ u. u .taken)) ∙ List·getD-map (λ (q : Queue A). 0) (c .queues) k none) j;
-    sum = (over-back (map (λ u. u .sum) us) (map (λ q. q .sum) (c .queues)) k [] (under (λ u. u .sum)) ∙ List·getD-map (λ (q : Queue A). q .sum) (c .queues) k none) j;
-    difference = (over-back (map (λ u. u .difference) us) (map (λ q. q .difference) (c .queues)) k [] (under (λ u. u .difference)) ∙ List·getD-map (λ (q : Queue A). q .difference) (c .queues) k none) j;
+    taken = side (λ u. u .taken) (λ q. 0) j;
+    sum = side (λ u. u .sum) (λ q. q .sum) j;
+    difference = side (λ u. u .difference) (λ q. q .difference) j;
     pll = over-back (map (λ u. u .pll) us) ds k z (under (λ u. u .pll)) j;
   }
     where
       under : {X : Type 0} (f : Turned A → X) → length (map f us) ≤ k
       under f = omega (arith, length-map us f)
+
+      side : {X : Type 0} (f : Turned A → X) (old : Queue A → X) → getD (over (map f us) (map old (c .queues))) k (old none) ≡ old (getD (c .queues) k none)
+      side f old = over-back (map f us) (map old (c .queues)) k (old none) (under f) ∙ List·getD-map old (c .queues) k none
 
   pub refused : (z : Pll A) (k : ℕ) → accepts (askedOf F ds c .said) ≡ false → leavesAt z (askedOf F ds c) k ≡ untouchedAt z ds (c .queues) k
   refused z k h = ap (λ (r : Rounded A). leavesAt z r k) (by-turns false h) ∙ bare z [] k (omega arith)
@@ -116,7 +118,9 @@ module _ {A : Type 0} (F : Arithmetic A) (ds : List (Pll A)) (c : Asked A) where
   past z k h = by (accepts (askedOf F ds c .said)) refl
     where
       by : (b : Bool) → accepts (askedOf F ds c .said) ≡ b → leavesAt z (askedOf F ds c) k ≡ untouchedAt z ds (c .queues) k
-      by true e = ap (λ (r : Rounded A). leavesAt z r k) (by-turns true e) ∙ bare z turns k (omega (arith, beside-few (turnOf F (c .table) (shareOf c)) (c .number) ds (c .queues)))
+      by true e =
+          ap (λ (r : Rounded A). leavesAt z r k) (by-turns true e)
+          ∙ bare z turns k (omega (arith, beside-few (turnOf F (c .table) (shareOf c)) (c .number) ds (c .queues)))
       by false e = refused z k e
 
   -- a place that has one
@@ -126,11 +130,16 @@ module _ {A : Type 0} (F : Arithmetic A) (ds : List (Pll A)) (c : Asked A) where
 
     module _ (z : Pll A) (k : ℕ) (hk : k < c .number) where
       -- one side of its turn
-      side : {X : Type 0} (f : Turned A → X) (old : List X) (x : X) → getD (over (map f turns) old) k x ≡ f (turnOf F (c .table) (shareOf c) (getD ds k z) (getD (c .queues) k none))
+      all-turns : length turns ≡ c .number
+      all-turns = length-beside (turnOf F (c .table) (shareOf c)) (c .number) ds (c .queues) (omega (arith, e8, tests .eight)) (omega (arith, q8, tests .eight))
+
+      side : {X : Type 0} (f : Turned A → X) (old : List X) (x : X)
+          → getD (over (map f turns) old) k x ≡ f (turnOf F (c .table) (shareOf c) (getD ds k z) (getD (c .queues) k none))
       side {X} f old x =
-          over-front (map f turns) old k x (omega (arith, hk, length-map turns f, length-beside (turnOf F (c .table) (shareOf c)) (c .number) ds (c .queues) (omega (arith, e8, tests .eight)) (omega (arith, q8, tests .eight))))
+          over-front (map f turns) old k x (omega (arith, hk, length-map turns f, all-turns))
           ∙ ap (λ (l : List X). getD l k x) (map-beside (turnOf F (c .table) (shareOf c)) f (c .number) ds (c .queues))
-          ∙ beside-get (λ d q. f (turnOf F (c .table) (shareOf c) d q)) (c .number) k ds (c .queues) z none x hk (omega (arith, hk, e8, tests .eight)) (omega (arith, hk, q8, tests .eight))
+          ∙ beside-get (λ d q. f (turnOf F (c .table) (shareOf c) d q)) (c .number) k ds (c .queues) z none x hk
+          (omega (arith, hk, e8, tests .eight)) (omega (arith, hk, q8, tests .eight))
 
       pub alone : leavesAt z (askedOf F ds c) k ≡ turnOf F (c .table) (shareOf c) (getD ds k z) (getD (c .queues) k none)
       alone =

@@ -5,9 +5,9 @@ use native.Mathlib.Omega.{arith}
 use mathlib.Core.Path.{_≡_, refl, sym, ap, _∙_}
 use mathlib.Core.Bool.{true}
 use mathlib.Core.List.{List, [], _∷_, _++_, append-nil, append-assoc}
-use lib.ListN.{length, take, drop, getD, length-take}
+use lib.ListN.{length, take, drop}
 use lib.Seq.{getD-take, getD-drop, length-take-le, take-at}
-use Rattle.answers.specs.Answer.{Said, accepted, accepts}
+use Rattle.answers.specs.Answer.{accepted, accepts}
 use Rattle.answers.specs.Samples.{samples}
 use Rattle.answers.proofs.Causes.{none-yet}
 use Rattle.answers.proofs.Passes.{length-samples, same-samples}
@@ -15,7 +15,7 @@ use Rattle.decoder_record.specs.State.{Pll}
 use Rattle.decoder.specs.Machine.{Arithmetic, Stepped, Blocked, stepOf, stateAt, stepAt, runOf, blockOf}
 use Rattle.calls.specs.Calls.{Brought}
 use Rattle.calls.specs.Demand.{firstOf}
-use Rattle.calls.proofs.Steps.{saysOf, ownBlock, block-ran, state-first, first-says}
+use Rattle.calls.proofs.Steps.{saysOf, block-ran, state-first, first-says}
 use Rattle.rack_waiting.specs.Beside.{over}
 use Rattle.rack.specs.Round.{Queue, Turned, turnOf}
 
@@ -44,20 +44,31 @@ module _ {A : Type 0} (F : Arithmetic A) (t : List A) where
   step-first x p d k i h =
       λ j. stepOf F t (state-first F t x p d k i (omega arith) j) (getD-take k x i (F .nought) h j) (getD-take k p i (F .nought) h j)
 
+  -- what n samples leave
+  abbrev ran : List A → List A → Pll A → ℕ → Blocked A
+  ran x p d n = record {
+    said = accepted;
+    sum = samples n (λ i. stepAt F t x p d i .sum);
+    difference = samples n (λ i. stepAt F t x p d i .difference);
+    pll = stateAt F t x p d n;
+  }
+
   -- a run over the first k samples, by all of them
   pub first-run : (x p : List A) (d : Pll A) (k : ℕ) → k ≤ length x
-      → runOf F d t (take k x) (take k p)
-      ≡ record { said = accepted; sum = samples k (λ i. stepAt F t x p d i .sum); difference = samples k (λ i. stepAt F t x p d i .difference); pll = stateAt F t x p d k }
+      → runOf F d t (take k x) (take k p) ≡ ran x p d k
   unfolding runOf
   first-run x p d k h =
-      ap (λ (n : ℕ). record { said = accepted; sum = samples n (λ i. stepAt F t (take k x) (take k p) d i .sum); difference = samples n (λ i. stepAt F t (take k x) (take k p) d i .difference); pll = stateAt F t (take k x) (take k p) d n })
-      (length-take-le k x h)
+      ap (ran (take k x) (take k p) d) (length-take-le k x h)
       ∙ (λ j. record {
         said = accepted;
-        sum = same-samples k (λ i. stepAt F t (take k x) (take k p) d i .sum) (λ i. stepAt F t x p d i .sum) (λ i l. ap (λ (s : Stepped A). s .sum) (step-first x p d k i l)) j;
-        difference = same-samples k (λ i. stepAt F t (take k x) (take k p) d i .difference) (λ i. stepAt F t x p d i .difference) (λ i l. ap (λ (s : Stepped A). s .difference) (step-first x p d k i l)) j;
+        sum = side (λ s. s .sum) j;
+        difference = side (λ s. s .difference) j;
         pll = state-first F t x p d k k (omega arith) j;
       })
+    where
+      side : (f : Stepped A → A) → samples k (λ i. f (stepAt F t (take k x) (take k p) d i)) ≡ samples k (λ i. f (stepAt F t x p d i))
+      side f =
+          same-samples k (λ i. f (stepAt F t (take k x) (take k p) d i)) (λ i. f (stepAt F t x p d i)) (λ i l. ap f (step-first x p d k i l))
 
   -- a turn of a decoder whose causes are not in force
   abbrev pub broughtOf : Queue A → Brought A
@@ -71,8 +82,7 @@ module _ {A : Type 0} (F : Arithmetic A) (t : List A) where
     unfolding n
     few = omega arith
 
-    block-is : blockOf F d t (take n (q .mpx)) (take n (q .pilot)) (take n (q .sum)) (take n (q .difference))
-        ≡ record { said = accepted; sum = samples n (λ i. stepAt F t (q .mpx) (q .pilot) d i .sum); difference = samples n (λ i. stepAt F t (q .mpx) (q .pilot) d i .difference); pll = stateAt F t (q .mpx) (q .pilot) d n }
+    block-is : blockOf F d t (take n (q .mpx)) (take n (q .pilot)) (take n (q .sum)) (take n (q .difference)) ≡ ran (q .mpx) (q .pilot) d n
     block-is =
         block-ran F d (firstOf n (broughtOf q)) (first-says F d (broughtOf q) n few (none-yet (saysOf F d (broughtOf q)) h))
         ∙ first-run (q .mpx) (q .pilot) d n few
@@ -97,4 +107,6 @@ module _ {A : Type 0} (F : Arithmetic A) (t : List A) where
 
     pub turn-difference : take (min share (length (q .mpx))) (u .difference) ≡ samples (min share (length (q .mpx))) (λ i. stepAt F t (q .mpx) (q .pilot) d i .difference)
     unfolding turnOf n
-    turn-difference = ap (λ (b : Blocked A). take n (over (b .difference) (q .difference))) block-is ∙ front (λ i. stepAt F t (q .mpx) (q .pilot) d i .difference) (q .difference)
+    turn-difference =
+        ap (λ (b : Blocked A). take n (over (b .difference) (q .difference))) block-is
+        ∙ front (λ i. stepAt F t (q .mpx) (q .pilot) d i .difference) (q .difference)

@@ -3,23 +3,22 @@
 use Prim.Native.Nat.{ℕ, zero, suc, _+_, _-_, _≤_, _<_}
 use native.Mathlib.Omega.{arith}
 use mathlib.Core.Path.{_≡_, refl, sym, ap, _∙_}
-use mathlib.Core.Bool.{Bool, true, false, cond}
+use mathlib.Core.Bool.{true}
 use mathlib.Core.List.{List, [], _∷_, map}
 use borrow.Author.Tests.{eq-eqb}
 use lib.ListN.{length, drop, getD, replicate, length-replicate, getD-replicate, length-drop}
 use lib.Ieee.{Float}
-use Rattle.answers.specs.Answer.{Said, accepted, accepts, firstCause, entries}
+use Rattle.answers.specs.Answer.{accepted, accepts, firstCause, entries}
 use Rattle.decoder_record.specs.State.{Pll}
 use Rattle.decoder.specs.F32.{f32}
 use Rattle.rack_waiting.specs.declared.Waiting.{Waiting}
 use Rattle.rack_waiting.specs.Beside.{beside}
-use Rattle.rack_waiting.specs.Waiting.{causeOf, roundSays}
+use Rattle.rack_waiting.specs.Waiting.{causeOf}
 use Rattle.rack_waiting.proofs.Answers.{decoders-decide}
 use Rattle.rack.specs.Round.{Queue, waitingOf}
-use Rattle.rounds.specs.Rounds.{Asked, Eight, none, askedOf, acceptedIn, Brings}
+use Rattle.rounds.specs.Rounds.{Asked, none, askedOf, acceptedIn, Brings}
 use Rattle.rounds.specs.Fit.{All}
 use Rattle.rounds.proofs.Places.{round-said}
-use Rattle.rounds.proofs.Lists.{round-eight}
 
 -- all four equally long
 abbrev Alike : Waiting → Type 0

@@ -12,7 +12,6 @@ use Rattle.answers.specs.Answer.{says}
 use Rattle.decoder_record.specs.declared.pll_f32.StereoPllF32.{StereoPllF32}
 use Rattle.decoder_record.specs.Records.{pllF32}
 use Rattle.decoder.specs.F32.{f32}
-use Rattle.rack_waiting.specs.declared.Waiting.{Waiting}
 use Rattle.rack.specs.Round.{Queue}
 use Rattle.rack_waiting.proofs.Loops.{map-set}
 use Rattle.rack.proofs.Parts.{small, place, falls, next-fits, end-fits}

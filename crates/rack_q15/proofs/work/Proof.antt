@@ -12,7 +12,6 @@ use Rattle.answers.specs.Answer.{says}
 use Rattle.decoder_record_q15.specs.declared.pll_q15.StereoPllQ15.{StereoPllQ15}
 use Rattle.decoder_record_q15.specs.Records.{pllQ15}
 use Rattle.decoder_q15.specs.Q15.{q15}
-use Rattle.rack_waiting.specs.declared.Waiting.{Waiting}
 use Rattle.rack.specs.Round.{Queue}
 use Rattle.rack_waiting.proofs.Loops.{map-set}
 use Rattle.rack.proofs.Parts.{small, place, falls, next-fits, end-fits}

@@ -1,6 +1,5 @@
 use mathlib.Core.Path.{_∙_}
 use native.Mathlib.Omega.{arith}
-use borrow.Author.Needs.{needs}
 use Rattle.rack_waiting.proofs.Answers.{too-few, too-many, too-little, decoders-decide}
 use Rattle.rack_waiting.proofs.round_answer.Statement.{statement}
 use Rattle.rack_waiting.proofs.round_answer.Tie as tie
