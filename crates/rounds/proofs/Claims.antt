@@ -35,9 +35,9 @@ module _ {A : Type 0} (F : Arithmetic A) where
         places.alone F ds a e8 q8 h z j l
         ∙ (λ i. turnOf F (et i) (es' i) (ed i) (eq i))
         ∙ sym (places.alone F es b f8 p8 g z k m);
-    past = λ z ds a k e q l. places.past F ds a z k l;
-    refused = λ z ds a k q h. places.refused F ds a z k h;
-    in-place = λ number allowance t ds ws flat e w. in-place.in-place F number allowance t ds ws flat e;
+    past = λ z ds a k l. places.past F ds a z k l;
+    refused = λ z ds a k h. places.refused F ds a z k h;
+    in-place = λ number allowance t ds ws flat e. in-place.in-place F number allowance t ds ws flat e;
   }
 
   -- once all are worked

@@ -117,12 +117,12 @@ module _ {A : Type 0} (F : Arithmetic A) where
         → getD ds j z ≡ getD es k z → getD (a .queues) j none ≡ getD (b .queues) k none
         → leavesAt z (askedOf ds a) j ≡ leavesAt z (askedOf es b) k
     -- a place past the number stays as it was, and in a refused round every place does
-    pub past : (z : Pll A) (ds : List (Pll A)) (a : Asked A) (k : ℕ) → Eight ds → Eight (a .queues)
+    pub past : (z : Pll A) (ds : List (Pll A)) (a : Asked A) (k : ℕ)
         → a .number ≤ k → leavesAt z (askedOf ds a) k ≡ untouchedAt z ds (a .queues) k
-    pub refused : (z : Pll A) (ds : List (Pll A)) (a : Asked A) (k : ℕ) → Eight (a .queues)
+    pub refused : (z : Pll A) (ds : List (Pll A)) (a : Asked A) (k : ℕ)
         → accepts (askedOf ds a .said) ≡ false → leavesAt z (askedOf ds a) k ≡ untouchedAt z ds (a .queues) k
     -- in flat lists the outputs that a round leaves lie where the queues lay
-    pub in-place : (number allowance : ℕ) (t : List A) (ds : List (Pll A)) (ws : List Waiting) (flat : Queue A) → Eight ds → Eight ws
+    pub in-place : (number allowance : ℕ) (t : List A) (ds : List (Pll A)) (ws : List Waiting) (flat : Queue A) → Eight ds
         → let r = roundOf F number allowance t ds (queuesOf ws flat) in
         let f = flatOf F number allowance t ds ws flat in
         let qs = queuesOf ws (record { mpx = flat .mpx; pilot = flat .pilot; sum = f .sum; difference = f .difference }) in
