@@ -11,9 +11,9 @@
  *
  * What the caller owes
  *   - Each pointer is aligned and leads to as many elements as the length after it says. It is
- *     not NULL, even where the length is 0.
- *   - An output overlaps no other argument of the call. So nothing is worked in place. Inputs may
- *     overlap each other.
+ *     not NULL, even where the length is 0. This holds for each slice of a list too.
+ *   - An output overlaps no other argument of the call: no input, no other output, and no list of
+ *     slices. So nothing is worked in place. Inputs may overlap each other.
  *   - The floating-point mode is the one a C program starts in: rounding to nearest, no traps,
  *     very small numbers kept. (-ffast-math at linking changes it, and with it the results.)
  *
@@ -431,6 +431,50 @@ pescrondilu_q15_round pescrondilu_q15_rack_round(
     const int16_t *table, size_t table_n, const int16_t *mpx, size_t mpx_n, const int16_t *pilot,
     size_t pilot_n, int16_t *PESCRONDILU_RESTRICT sum, size_t sum_n,
     int16_t *PESCRONDILU_RESTRICT difference, size_t difference_n);
+
+/* A slice of a list: where its samples are, and how many. Those of an output are written to. */
+typedef struct pescrondilu_f32_input {
+    const float *samples;
+    size_t n;
+} pescrondilu_f32_input;
+
+typedef struct pescrondilu_f32_output {
+    float *samples;
+    size_t n;
+} pescrondilu_f32_output;
+
+typedef struct pescrondilu_q15_input {
+    const int16_t *samples;
+    size_t n;
+} pescrondilu_q15_input;
+
+typedef struct pescrondilu_q15_output {
+    int16_t *samples;
+    size_t n;
+} pescrondilu_q15_output;
+
+/*
+ * The same round for receivers that have buffers of their own. mpx, pilot, sum and difference are
+ * lists of slices, each with the number of its slices after it, and decoder k's are mpx[k],
+ * pilot[k], sum[k] and difference[k]. A slice that is not in its list counts as empty, so that a
+ * list may end before a decoder for which nothing waits. Slices past the rack's number make no
+ * difference and are not written to. The lists themselves are only read.
+ *
+ * Share, taken, causes, outputs and records are those of pescrondilu_f32_rack_round, a decoder's
+ * slices being its parts, of which none is cut off.
+ */
+pescrondilu_f32_round pescrondilu_f32_rack_round_slices(
+    pescrondilu_f32_rack rack, uint32_t allowance, const float *table, size_t table_n,
+    const pescrondilu_f32_input *mpx, size_t mpx_n, const pescrondilu_f32_input *pilot,
+    size_t pilot_n, const pescrondilu_f32_output *sum, size_t sum_n,
+    const pescrondilu_f32_output *difference, size_t difference_n);
+
+/* The same in fixed point. Causes 21, 22; then of each decoder 0, then as in float. */
+pescrondilu_q15_round pescrondilu_q15_rack_round_slices(
+    pescrondilu_q15_rack rack, uint32_t allowance, const int16_t *table, size_t table_n,
+    const pescrondilu_q15_input *mpx, size_t mpx_n, const pescrondilu_q15_input *pilot,
+    size_t pilot_n, const pescrondilu_q15_output *sum, size_t sum_n,
+    const pescrondilu_q15_output *difference, size_t difference_n);
 
 /*
  * Scans a pilot from its end, as the float blocks of the fast way do themselves, for a caller that

@@ -124,6 +124,22 @@ FIELD(pescrondilu_q15_round, answer, 0);
 FIELD(pescrondilu_q15_round, taken, 24);
 FIELD(pescrondilu_q15_round, rack, 88);
 
+SIZE(pescrondilu_f32_input, 16);
+FIELD(pescrondilu_f32_input, samples, 0);
+FIELD(pescrondilu_f32_input, n, 8);
+
+SIZE(pescrondilu_f32_output, 16);
+FIELD(pescrondilu_f32_output, samples, 0);
+FIELD(pescrondilu_f32_output, n, 8);
+
+SIZE(pescrondilu_q15_input, 16);
+FIELD(pescrondilu_q15_input, samples, 0);
+FIELD(pescrondilu_q15_input, n, 8);
+
+SIZE(pescrondilu_q15_output, 16);
+FIELD(pescrondilu_q15_output, samples, 0);
+FIELD(pescrondilu_q15_output, n, 8);
+
 SIZE(pescrondilu_f32_scanned, 16);
 FIELD(pescrondilu_f32_scanned, finite, 0);
 FIELD(pescrondilu_f32_scanned, read, 8);

@@ -271,6 +271,38 @@ static void share(pescrondilu_f32 d)
     expect(none.answer.code == PESCRONDILU_REFUSED + 22, "the code is 122");
 }
 
+/*
+ * The same receivers with buffers of their own, in one round with a larger allowance. Nothing waits
+ * for the third, so that two slices in each list are enough.
+ */
+static void share_slices(pescrondilu_f32 d)
+{
+    static float sums[2][BLOCK], differences[2][BLOCK], same[BLOCK], alone[BLOCK];
+    static const pescrondilu_f32_input m[2] = {{mpx, BLOCK}, {mpx, 700}};
+    static const pescrondilu_f32_input p[2] = {{pilot, BLOCK}, {pilot, 700}};
+    static const pescrondilu_f32_output sum[2] = {{sums[0], BLOCK}, {sums[1], 700}};
+    static const pescrondilu_f32_output difference[2] = {{differences[0], BLOCK},
+                                                         {differences[1], 700}};
+    static pescrondilu_f32_rack rack;
+    for (int k = 0; k < RECEIVERS; k++)
+        rack.decoders[k] = d;
+    rack.number = RECEIVERS;
+
+    pescrondilu_f32_round round =
+        pescrondilu_f32_rack_round_slices(rack, RECEIVERS * BLOCK, table, PESCRONDILU_TABLE_LENGTH,
+                                          m, 2, p, 2, sum, 2, difference, 2);
+    printf("slices: 1 round, %zu, %zu and %zu samples taken\n", round.taken[0], round.taken[1],
+           round.taken[2]);
+    expect(round.answer.code == 0, "the round over slices is accepted");
+
+    pescrondilu_f32_reply reply =
+        pescrondilu_f32_block(d, table, PESCRONDILU_TABLE_LENGTH, mpx, 700, pilot, 700, same, 700,
+                              alone, 700);
+    expect(memcmp(&round.rack.decoders[1], &reply.decoder, sizeof d) == 0 &&
+               memcmp(differences[1], alone, sizeof alone) == 0 && alone[699] != 0,
+           "the second receiver's are those of its own block");
+}
+
 /* A block with a pilot one sample short is refused, and nothing changes. */
 static void refuse(pescrondilu_f32 d)
 {
@@ -344,6 +376,7 @@ int main(void)
     receive_q15();
     summarize();
     share(d);
+    share_slices(d);
     refuse(d);
     use_switches(d);
     puts(wrong ? "not all is as expected" : "all is as expected");

@@ -1,5 +1,5 @@
-//! crates/c_rack: a round of a rack. A struct that both formats have is one here, over the format's
-//! number V; S is the format's sample.
+//! crates/c_rack and crates/c_rack_slices: a round of a rack. A struct that both formats have is one
+//! here, over the format's number V or its sample S.
 
 use crate::Code;
 use crate::decoder::{Decoder, Sample};
@@ -63,6 +63,46 @@ pub struct Round<V> {
 layout!(Round<f32>, 480, answer 0, taken 24, rack 88);
 layout!(Round<i64>, 736, answer 0, taken 24, rack 88);
 
+/// An input of a list.
+#[repr(C)]
+#[derive(Clone, Copy, Debug, PartialEq, Eq)]
+pub struct Input<S> {
+    pub samples: *const S,
+    pub n: usize,
+}
+
+layout!(Input<f32>, 16, samples 0, n 8);
+layout!(Input<i16>, 16, samples 0, n 8);
+
+impl<S> From<&[S]> for Input<S> {
+    fn from(slice: &[S]) -> Self {
+        Input {
+            samples: slice.as_ptr(),
+            n: slice.len(),
+        }
+    }
+}
+
+/// An output of a list.
+#[repr(C)]
+#[derive(Clone, Copy, Debug, PartialEq, Eq)]
+pub struct Output<S> {
+    pub samples: *mut S,
+    pub n: usize,
+}
+
+layout!(Output<f32>, 16, samples 0, n 8);
+layout!(Output<i16>, 16, samples 0, n 8);
+
+impl<S> From<&mut [S]> for Output<S> {
+    fn from(slice: &mut [S]) -> Self {
+        Output {
+            samples: slice.as_mut_ptr(),
+            n: slice.len(),
+        }
+    }
+}
+
 type RoundCall<V, S> = unsafe extern "C" fn(
     Rack<V>,
     u32,
@@ -78,14 +118,29 @@ type RoundCall<V, S> = unsafe extern "C" fn(
     *mut S,
     usize,
 ) -> Round<V>;
+type SlicesCall<V, S> = unsafe extern "C" fn(
+    Rack<V>,
+    u32,
+    *const S,
+    usize,
+    *const Input<S>,
+    usize,
+    *const Input<S>,
+    usize,
+    *const Output<S>,
+    usize,
+    *const Output<S>,
+    usize,
+) -> Round<V>;
 
-/// A format's round.
+/// A format's rounds.
 pub trait Racked: Sample {
     const RACK_ROUND: RoundCall<Self::Value, Self>;
+    const RACK_ROUND_SLICES: SlicesCall<Self::Value, Self>;
 }
 
 macro_rules! format {
-    ($value:ty, $sample:ty, $round:ident) => {
+    ($value:ty, $sample:ty, $round:ident, $slices:ident) => {
         unsafe extern "C" {
             pub fn $round(
                 rack: Rack<$value>,
@@ -102,16 +157,37 @@ macro_rules! format {
                 difference: *mut $sample,
                 difference_n: usize,
             ) -> Round<$value>;
+            pub fn $slices(
+                rack: Rack<$value>,
+                allowance: u32,
+                table: *const $sample,
+                table_n: usize,
+                mpx: *const Input<$sample>,
+                mpx_n: usize,
+                pilot: *const Input<$sample>,
+                pilot_n: usize,
+                sum: *const Output<$sample>,
+                sum_n: usize,
+                difference: *const Output<$sample>,
+                difference_n: usize,
+            ) -> Round<$value>;
         }
 
         impl Racked for $sample {
             const RACK_ROUND: RoundCall<$value, $sample> = $round;
+            const RACK_ROUND_SLICES: SlicesCall<$value, $sample> = $slices;
         }
     };
 }
 
-format!(f32, f32, pescrondilu_f32_rack_round);
-format!(i64, i16, pescrondilu_q15_rack_round);
+format!(
+    f32,
+    f32, pescrondilu_f32_rack_round, pescrondilu_f32_rack_round_slices
+);
+format!(
+    i64,
+    i16, pescrondilu_q15_rack_round, pescrondilu_q15_rack_round_slices
+);
 
 /// A round. Decoder k's part of each slice begins where that of the one before ends.
 #[inline]
@@ -143,6 +219,60 @@ pub fn rack_round<S: Racked>(
             sum.len(),
             difference.as_mut_ptr(),
             difference.len(),
+        )
+    }
+}
+
+/// The slices of a list that a rack can have, and how many these are. The core reads no more, since
+/// a rack has no decoder for them.
+fn cut<T: Copy>(list: impl ExactSizeIterator<Item = T>, empty: T) -> ([T; PLACES], usize) {
+    let n = list.len().min(PLACES);
+    let mut slices = [empty; PLACES];
+    for (slice, given) in slices.iter_mut().zip(list) {
+        *slice = given;
+    }
+    (slices, n)
+}
+
+fn inputs<S: Copy>(list: &[&[S]]) -> ([Input<S>; PLACES], usize) {
+    cut(list.iter().map(|x| Input::from(*x)), Input::from(&[][..]))
+}
+
+fn outputs<S: Copy>(list: &mut [&mut [S]]) -> ([Output<S>; PLACES], usize) {
+    let list = list.iter_mut().map(|x| Output::from(&mut **x));
+    cut(list, Output::from(&mut [][..]))
+}
+
+/// A round over slices of each decoder's own: decoder k's are the k-th of each list. One that is not
+/// there counts as empty.
+#[inline]
+pub fn rack_round_slices<S: Racked>(
+    rack: Rack<S::Value>,
+    allowance: u32,
+    table: &[S],
+    mpx: &[&[S]],
+    pilot: &[&[S]],
+    sum: &mut [&mut [S]],
+    difference: &mut [&mut [S]],
+) -> Round<S::Value> {
+    let ((mpx, mpx_n), (pilot, pilot_n)) = (inputs(mpx), inputs(pilot));
+    let ((sum, sum_n), (difference, difference_n)) = (outputs(sum), outputs(difference));
+    // SAFETY: a pointer and a length are those of one slice, in the lists too, no output overlaps
+    // another argument, and the lists are only read.
+    unsafe {
+        S::RACK_ROUND_SLICES(
+            rack,
+            allowance,
+            table.as_ptr(),
+            table.len(),
+            mpx.as_ptr(),
+            mpx_n,
+            pilot.as_ptr(),
+            pilot_n,
+            sum.as_ptr(),
+            sum_n,
+            difference.as_ptr(),
+            difference_n,
         )
     }
 }

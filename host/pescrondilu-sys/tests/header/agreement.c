@@ -10,6 +10,7 @@
 
 #define CASES 96
 #define N 9
+#define SLICES 10 /* of a list, two more than the decoders of a rack */
 
 /* ---- The numbers of a case ------------------------------------------------------------------- */
 
@@ -17,7 +18,8 @@ static uint64_t state = 2026;
 static unsigned kind;  /* 0: NaNs, 1: any bits, 2: the lists below, 3: numbers that compute */
 /*
  * 4 to 7: which length is wrong. 1: the summary is of any bits, and so is a rack's number; 2: the
- * allowance is too small; 3: what waits is of any bits; 0: the allowance is.
+ * allowance is too small; 3: what waits is of any bits, and slices have any lengths; 0: the
+ * allowance is of any bits.
  */
 static unsigned fault;
 
@@ -232,6 +234,37 @@ static pescrondilu_rack_waiting any_waiting(void)
     return r;
 }
 
+/* Where the slices of each list begin in the N samples, and how many are in the list. */
+static struct {
+    size_t count;
+    size_t at[SLICES];
+    size_t n[SLICES];
+} lists[4];
+
+/*
+ * None to ten slices of none to two samples, one behind the other. The four lists are alike, unless
+ * the fault is 3; from 5 on a first slice differs, that of pilot, sum or difference.
+ */
+static void any_lists(void)
+{
+    size_t count = (size_t)(next() % (SLICES + 1));
+    size_t at[4] = {0, 0, 0, 0};
+    for (unsigned j = 0; j < 4; j++)
+        lists[j].count = fault == 3 ? (size_t)(next() % (SLICES + 1)) : count;
+    for (int i = 0; i < SLICES; i++) {
+        size_t all = (size_t)(next() % 3);
+        for (unsigned j = 0; j < 4; j++) {
+            size_t n = fault == 3 ? (size_t)(next() % 3) : all;
+            if (i == 0 && j > 0 && fault == 4 + j)
+                n = n > 0 ? n - 1 : 1;
+            n = n < N - at[j] ? n : N - at[j];
+            lists[j].at[i] = at[j];
+            lists[j].n[i] = n;
+            at[j] += n;
+        }
+    }
+}
+
 static pescrondilu_nco any_nco(void)
 {
     pescrondilu_nco o;
@@ -389,6 +422,13 @@ static void put_q15_rack(pescrondilu_q15_rack r)
         put_q15(r.decoders[i]);
     put64(r.number);
 }
+
+/* The slices of list j in these samples. */
+#define SET_LIST(list, j, from)                                                                    \
+    for (int i = 0; i < SLICES; i++) {                                                             \
+        list[i].samples = from + lists[j].at[i];                                                   \
+        list[i].n = lists[j].n[i];                                                                 \
+    }
 
 static void put_readout(pescrondilu_readout r)
 {
@@ -692,6 +732,44 @@ static void decoders(void)
         pescrondilu_q15_round r = pescrondilu_q15_rack_round(
             rack, allowance, waiting, table_q, TABLE_N, in1_q, N, in2_q, length(N, 5), out1_q,
             length(N, 6), out2_q, length(N, 7));
+        put_answer(r.answer);
+        put_taken(r.taken);
+        put_q15_rack(r.rack);
+        put_outputs();
+    })
+    EACH(pescrondilu_f32_rack_round_slices, {
+        fill();
+        pescrondilu_f32_rack rack = any_f32_rack();
+        uint32_t allowance = any_allowance(rack.number);
+        any_lists();
+        pescrondilu_f32_input mpx[SLICES], pilot[SLICES];
+        pescrondilu_f32_output sum[SLICES], difference[SLICES];
+        SET_LIST(mpx, 0, in1)
+        SET_LIST(pilot, 1, in2)
+        SET_LIST(sum, 2, out1)
+        SET_LIST(difference, 3, out2)
+        pescrondilu_f32_round r = pescrondilu_f32_rack_round_slices(
+            rack, allowance, table, TABLE_N, mpx, lists[0].count, pilot, lists[1].count, sum,
+            lists[2].count, difference, lists[3].count);
+        put_answer(r.answer);
+        put_taken(r.taken);
+        put_f32_rack(r.rack);
+        put_outputs();
+    })
+    EACH(pescrondilu_q15_rack_round_slices, {
+        fill();
+        pescrondilu_q15_rack rack = any_q15_rack();
+        uint32_t allowance = any_allowance(rack.number);
+        any_lists();
+        pescrondilu_q15_input mpx[SLICES], pilot[SLICES];
+        pescrondilu_q15_output sum[SLICES], difference[SLICES];
+        SET_LIST(mpx, 0, in1_q)
+        SET_LIST(pilot, 1, in2_q)
+        SET_LIST(sum, 2, out1_q)
+        SET_LIST(difference, 3, out2_q)
+        pescrondilu_q15_round r = pescrondilu_q15_rack_round_slices(
+            rack, allowance, table_q, TABLE_N, mpx, lists[0].count, pilot, lists[1].count, sum,
+            lists[2].count, difference, lists[3].count);
         put_answer(r.answer);
         put_taken(r.taken);
         put_q15_rack(r.rack);

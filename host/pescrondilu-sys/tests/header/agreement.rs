@@ -16,6 +16,7 @@ use std::process::Command;
 
 const CASES: u32 = 96;
 const N: usize = 9;
+const SLICES: usize = 10;
 const TABLE: usize = 4097;
 const BITS: usize = 104;
 
@@ -44,6 +45,27 @@ enum Which {
     Fast,
     Plain,
     Merged,
+}
+
+/// A list: how many slices are in it, and where each begins and how long it is.
+#[derive(Clone, Copy, Default)]
+struct List {
+    count: usize,
+    slices: [(usize, usize); SLICES],
+}
+
+impl List {
+    fn inputs<S>(&self, from: &[S]) -> [Input<S>; SLICES] {
+        self.slices.map(|(at, n)| Input::from(&from[at..at + n]))
+    }
+
+    fn outputs<S>(&self, from: &mut [S]) -> [Output<S>; SLICES] {
+        let samples = from.as_mut_ptr();
+        self.slices.map(|(at, n)| Output {
+            samples: samples.wrapping_add(at),
+            n,
+        })
+    }
 }
 
 /// The numbers of a case, the samples, and the lines. agreement.c says what each is.
@@ -331,6 +353,34 @@ impl Calls {
             }
         });
         RackWaiting { decoders }
+    }
+
+    fn any_lists(&mut self) -> [List; 4] {
+        let count = (self.next() % (SLICES as u64 + 1)) as usize;
+        let mut lists = [(); 4].map(|()| List {
+            count: match self.fault {
+                3 => (self.next() % (SLICES as u64 + 1)) as usize,
+                _ => count,
+            },
+            ..List::default()
+        });
+        let mut at = [0; 4];
+        for i in 0..SLICES {
+            let all = (self.next() % 3) as usize;
+            for (j, list) in lists.iter_mut().enumerate() {
+                let mut n = match self.fault {
+                    3 => (self.next() % 3) as usize,
+                    _ => all,
+                };
+                if i == 0 && j > 0 && self.fault as usize == 4 + j {
+                    n = if n > 0 { n - 1 } else { 1 };
+                }
+                n = n.min(N - at[j]);
+                list.slices[i] = (at[j], n);
+                at[j] += n;
+            }
+        }
+        lists
     }
 
     fn any_nco(&mut self) -> Nco {
@@ -755,6 +805,70 @@ impl Calls {
         self.put_round(r, Calls::put_q15);
     }
 
+    fn f32_rack_round_slices(&mut self) {
+        self.fill();
+        let rack = self.any_rack(Calls::any_f32);
+        let allowance = self.any_allowance(rack.number);
+        let lists = self.any_lists();
+        let (mpx, pilot) = (lists[0].inputs(&self.in1), lists[1].inputs(&self.in2));
+        let sum = lists[2].outputs(&mut self.out1);
+        let difference = lists[3].outputs(&mut self.out2);
+        let r = unsafe {
+            pescrondilu_f32_rack_round_slices(
+                rack,
+                allowance,
+                self.table.as_ptr(),
+                self.table_n(),
+                mpx.as_ptr(),
+                lists[0].count,
+                pilot.as_ptr(),
+                lists[1].count,
+                sum.as_ptr(),
+                lists[2].count,
+                difference.as_ptr(),
+                lists[3].count,
+            )
+        };
+        self.put_round(r, Calls::put_f32);
+        // the lists are only read
+        assert_eq!(mpx, lists[0].inputs(&self.in1));
+        assert_eq!(pilot, lists[1].inputs(&self.in2));
+        assert_eq!(sum, lists[2].outputs(&mut self.out1));
+        assert_eq!(difference, lists[3].outputs(&mut self.out2));
+    }
+
+    fn q15_rack_round_slices(&mut self) {
+        self.fill();
+        let rack = self.any_rack(Calls::any_q15);
+        let allowance = self.any_allowance(rack.number);
+        let lists = self.any_lists();
+        let (mpx, pilot) = (lists[0].inputs(&self.in1_q), lists[1].inputs(&self.in2_q));
+        let sum = lists[2].outputs(&mut self.out1_q);
+        let difference = lists[3].outputs(&mut self.out2_q);
+        let r = unsafe {
+            pescrondilu_q15_rack_round_slices(
+                rack,
+                allowance,
+                self.table_q.as_ptr(),
+                self.table_n(),
+                mpx.as_ptr(),
+                lists[0].count,
+                pilot.as_ptr(),
+                lists[1].count,
+                sum.as_ptr(),
+                lists[2].count,
+                difference.as_ptr(),
+                lists[3].count,
+            )
+        };
+        self.put_round(r, Calls::put_q15);
+        // the lists are only read
+        assert_eq!(mpx, lists[0].inputs(&self.in1_q));
+        assert_eq!(pilot, lists[1].inputs(&self.in2_q));
+        assert_eq!(sum, lists[2].outputs(&mut self.out1_q));
+        assert_eq!(difference, lists[3].outputs(&mut self.out2_q));
+    }
+
     fn f32_scan(&mut self) {
         self.fill();
         let s = unsafe { pescrondilu_f32_scan(self.in1.as_ptr(), self.length(N, 5)) };
@@ -933,6 +1047,14 @@ impl Calls {
         self.each("pescrondilu_q15_summary_block", Calls::q15_summary_block);
         self.each("pescrondilu_f32_rack_round", Calls::f32_rack_round);
         self.each("pescrondilu_q15_rack_round", Calls::q15_rack_round);
+        self.each(
+            "pescrondilu_f32_rack_round_slices",
+            Calls::f32_rack_round_slices,
+        );
+        self.each(
+            "pescrondilu_q15_rack_round_slices",
+            Calls::q15_rack_round_slices,
+        );
         self.each("pescrondilu_f32_scan", Calls::f32_scan);
         self.each("pescrondilu_matrix_f32", Calls::matrix_f32);
         self.each("pescrondilu_matrix_q15", Calls::matrix_q15);
@@ -1217,8 +1339,12 @@ fn the_calls_cover_the_library() {
             "pescrondilu_q15_summary_block" => &[0, 100, 109, 110, 111, 120],
             // it answers no code: its first word is the period
             "pescrondilu_f32_summary_new" | "pescrondilu_q15_summary_new" => continue,
-            "pescrondilu_f32_rack_round" => &[0, 109, 110, 111, 121, 122],
-            "pescrondilu_q15_rack_round" => &[0, 100, 109, 110, 111, 121, 122],
+            "pescrondilu_f32_rack_round" | "pescrondilu_f32_rack_round_slices" => {
+                &[0, 109, 110, 111, 121, 122]
+            }
+            "pescrondilu_q15_rack_round" | "pescrondilu_q15_rack_round_slices" => {
+                &[0, 100, 109, 110, 111, 121, 122]
+            }
             "pescrondilu_matrix_f32" | "pescrondilu_matrix_q15" => &[0, 110, 111],
             _ if name.ends_with("_block") => &[0, 109, 110, 111],
             "pescrondilu_encode_set_pilot" | "pescrondilu_encode_rds_set_pilot" => &[0, 114],

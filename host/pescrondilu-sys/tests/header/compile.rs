@@ -88,6 +88,7 @@ fn receiver_runs() {
         "summary: 25 periods of 20 ms, 1 change, in period 2",
         "rack: 4 rounds, 1920, 700 and 0 samples taken",
         "an allowance of 2 for 3: code 122",
+        "slices: 1 round, 1920, 700 and 0 samples taken",
         "pilot one short: code 110, expected 1920, got 1919",
         "record and outputs: as they were",
         "a rate of 0: code 101",

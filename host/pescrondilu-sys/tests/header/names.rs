@@ -6,7 +6,7 @@ use crate::support::{library_folder, read, root, run, tool};
 use std::collections::{BTreeMap, BTreeSet};
 use std::process::Command;
 
-const COUNT: usize = 74;
+const COUNT: usize = 76;
 
 fn names(declared: &Declared) -> BTreeSet<String> {
     declared.functions.keys().cloned().collect()

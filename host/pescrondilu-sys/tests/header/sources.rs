@@ -35,8 +35,8 @@ impl Declared {
     }
 }
 
-/// A struct in C, in Rattle and in Rust.
-pub const STRUCTS: [(&str, &str, &str); 33] = [
+/// A struct in C, in Rattle and in Rust. In Rattle a slice of a list is no struct.
+pub const STRUCTS: [(&str, &str, &str); 37] = [
     ("pescrondilu_answer", "Code", "Code"),
     ("pescrondilu_f32", "DecoderF32", "Decoder<f32>"),
     ("pescrondilu_q15", "DecoderQ15", "Decoder<i64>"),
@@ -71,6 +71,10 @@ pub const STRUCTS: [(&str, &str, &str); 33] = [
     ("pescrondilu_rack_waiting", "RackWaiting", "RackWaiting"),
     ("pescrondilu_f32_round", "RoundF32", "Round<f32>"),
     ("pescrondilu_q15_round", "RoundQ15", "Round<i64>"),
+    ("pescrondilu_f32_input", "&[f32]", "Input<f32>"),
+    ("pescrondilu_f32_output", "&mut[f32]", "Output<f32>"),
+    ("pescrondilu_q15_input", "&[i16]", "Input<i16>"),
+    ("pescrondilu_q15_output", "&mut[i16]", "Output<i16>"),
     ("pescrondilu_f32_scanned", "ScannedF32", "Scanned"),
     ("pescrondilu_nco", "Nco", "Nco"),
     ("pescrondilu_increment", "CodedIncrement", "CodedIncrement"),
@@ -292,7 +296,8 @@ fn rattle_files(crates: impl Fn(&str) -> bool) -> Vec<PathBuf> {
     found
 }
 
-/// The `pub extern "C" fn` of crates/c_*, and the `#[repr(C)] pub struct` of all crates.
+/// The `pub extern "C" fn` of crates/c_*, the `#[repr(C)] pub struct` of all crates, and the slices
+/// of lists.
 pub fn rattle() -> Declared {
     let mut declared = Declared::default();
     for file in rattle_files(|name| name.starts_with("c_")) {
@@ -322,24 +327,46 @@ pub fn rattle() -> Declared {
             }
         }
     }
+    for (c, slice, _) in STRUCTS.iter().filter(|(_, name, _)| name.starts_with('&')) {
+        let kind = words(slice);
+        let pointer = rattle_pointer(&kind).expect("it is a slice");
+        let fields = [("samples", pointer), ("n", in_c("usize"))];
+        declared.fields(c, fields.map(|(n, t)| (n.to_string(), t)).to_vec());
+    }
     declared
+}
+
+/// The pointer of a slice in C; none where the type is no slice.
+fn rattle_pointer(kind: &[String]) -> Option<String> {
+    let kind: Vec<&str> = kind.iter().map(String::as_str).collect();
+    let (element, written) = match &kind[..] {
+        ["&", "[", element @ .., "]"] => (element, false),
+        // a list of outputs is only read
+        ["&", "mut", "[", element @ .., "]"] => (element, element[0] != "&"),
+        _ => return None,
+    };
+    let pointer = format!("{} *", in_c(&element.concat()));
+    Some(match written {
+        true => pointer,
+        false => format!("const {pointer}"),
+    })
 }
 
 /// A parameter; a slice is a pointer and a length.
 fn rattle_parameter(part: &[String], parameters: &mut Vec<Named>) {
     let name = part[0].clone();
-    let kind: Vec<&str> = part[2..].iter().map(String::as_str).collect();
-    match kind[..] {
-        ["&", "[", element, "]"] => {
-            parameters.push((name, format!("const {} *", in_c(element))));
-            parameters.push((String::new(), in_c("usize")));
-        }
-        ["&", "mut", "[", element, "]"] => {
-            let pointer = format!("{} * PESCRONDILU_RESTRICT", in_c(element));
-            parameters.push((name, pointer));
-            parameters.push((String::new(), in_c("usize")));
-        }
-        _ => parameters.push((name, in_c(&kind.concat()))),
+    let Some(pointer) = rattle_pointer(&part[2..]) else {
+        return parameters.push((name, in_c(&part[2..].concat())));
+    };
+    parameters.push((name, restricted(pointer)));
+    parameters.push((String::new(), in_c("usize")));
+}
+
+/// A parameter's type: what is written overlaps nothing else.
+fn restricted(kind: String) -> String {
+    match kind.ends_with('*') && !kind.starts_with("const") {
+        true => kind + " PESCRONDILU_RESTRICT",
+        false => kind,
     }
 }
 
@@ -348,7 +375,7 @@ const FORMATS: [[(&str, &str); 2]; 2] =
     [[("V", "f32"), ("S", "f32")], [("V", "i64"), ("S", "i16")]];
 
 /// The words with types in the place of parameters.
-fn replaced(words: &[String], types: &[(&str, &str)]) -> String {
+fn replaced(words: &[String], types: &[(&str, &str)]) -> Vec<String> {
     let kind = |word: &String| match types.iter().find(|(parameter, _)| parameter == word) {
         Some((_, kind)) => kind.to_string(),
         None => word.clone(),
@@ -356,12 +383,25 @@ fn replaced(words: &[String], types: &[(&str, &str)]) -> String {
     words.iter().map(kind).collect()
 }
 
+/// A Rust type in C.
+fn rust_type(kind: &[String]) -> String {
+    match kind {
+        [star, of, element @ ..] if star == "*" && of == "const" => {
+            format!("const {} *", in_c(&element.concat()))
+        }
+        [star, of, element @ ..] if star == "*" && of == "mut" => {
+            format!("{} *", in_c(&element.concat()))
+        }
+        _ => in_c(&kind.concat()),
+    }
+}
+
 /// The fields of a struct from its brace on, with types in the place of parameters.
 fn rust_fields(words: &[String], types: &[(&str, &str)]) -> Vec<Named> {
     let inner = &words[1..words.len() - 1];
     let field = |part: &[String]| {
         assert!(part[0] == "pub" && part[2] == ":", "not a field: {part:?}");
-        (part[1].clone(), in_c(&replaced(&part[3..], types)))
+        (part[1].clone(), rust_type(&replaced(&part[3..], types)))
     };
     parts(inner).into_iter().map(field).collect()
 }
@@ -442,7 +482,7 @@ pub fn rust() -> Declared {
             let body = &here[open..closing(here, open)];
             let generic = here[3] == "<";
             for types in &FORMATS[..if generic { 2 } else { 1 }] {
-                let name = replaced(&here[2..open], types);
+                let name = replaced(&here[2..open], types).concat();
                 declared.fields(&in_c(&name), rust_fields(body, types));
             }
         }
@@ -470,11 +510,5 @@ fn rust_block(block: &[String], declared: &mut Declared) {
 }
 
 fn rust_parameter(part: &[String]) -> Named {
-    let kind: Vec<&str> = part[2..].iter().map(String::as_str).collect();
-    let kind = match kind[..] {
-        ["*", "const", element] => format!("const {} *", in_c(element)),
-        ["*", "mut", element] => format!("{} * PESCRONDILU_RESTRICT", in_c(element)),
-        _ => in_c(&kind.concat()),
-    };
-    (part[0].clone(), kind)
+    (part[0].clone(), restricted(rust_type(&part[2..])))
 }
