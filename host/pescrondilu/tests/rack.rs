@@ -1,5 +1,6 @@
 //! A round of a rack beside each decoder's own block, rounds until all is worked, and the causes 21
-//! and 22 and those of the decoders in their order.
+//! and 22 and those of the decoders in their order. Each round is made twice, over flat slices and
+//! over queues, and both have to leave the same.
 
 mod common;
 
@@ -7,14 +8,16 @@ use common::{
     Format, PILOT_HZ, RATE, Random, all_bits, any, audio, cause, decoder, lengths, one_nan, pilot,
     record_bits, record_one_nan,
 };
-use pescrondilu::kernels::stereo::{DecoderRecord, RACK_PLACES, Rack, StereoPllState, Waiting};
+use pescrondilu::kernels::stereo::{
+    DecoderRecord, RACK_PLACES, Rack, RackQueue, StereoPllState, Waiting,
+};
 use pescrondilu::{Error, Q15, Refusal, tables};
 use pescrondilu_sys::rack as sys;
 
 /// What waits for a decoder: multiplex and pilot, equally long.
 type Queue<T> = (Vec<T>, Vec<T>);
 
-/// What lies past the parts.
+/// What lies past the parts, and on either side of a queue's outputs.
 const PAST: usize = 3;
 
 fn numbers<T: Format>(samples: &[T]) -> Vec<u64> {
@@ -46,6 +49,54 @@ fn one<T: Format>(i: usize) -> StereoPllState<T> {
     st
 }
 
+/// A queue's samples and its outputs, in buffers of their own.
+struct Own<T> {
+    mpx: Vec<T>,
+    pilot: Vec<T>,
+    sum: Vec<T>,
+    difference: Vec<T>,
+}
+
+impl<T: Format> Own<T> {
+    fn new(mpx: &[T], pilot: &[T], sum: usize, difference: usize) -> Self {
+        Own {
+            mpx: mpx.to_vec(),
+            pilot: pilot.to_vec(),
+            sum: vec![T::LEFT; sum + 2 * PAST],
+            difference: vec![T::LEFT; difference + 2 * PAST],
+        }
+    }
+
+    /// Room for the outputs of these samples.
+    fn of((mpx, pilot): &Queue<T>) -> Self {
+        Own::new(mpx, pilot, mpx.len(), mpx.len())
+    }
+
+    fn queue(&mut self) -> RackQueue<'_, T> {
+        let ends = [self.sum.len() - PAST, self.difference.len() - PAST];
+        RackQueue {
+            mpx: &self.mpx,
+            pilot: &self.pilot,
+            sum: &mut self.sum[PAST..ends[0]],
+            difference: &mut self.difference[PAST..ends[1]],
+        }
+    }
+
+    /// Sum and difference; nothing around them was written.
+    fn outputs(&self) -> [Vec<T>; 2] {
+        [&self.sum, &self.difference].map(|output| {
+            let (before, rest) = output.split_at(PAST);
+            let (own, behind) = rest.split_at(rest.len() - PAST);
+            assert!(is_left(before) && is_left(behind));
+            own.to_vec()
+        })
+    }
+
+    fn is_left(&self) -> bool {
+        is_left(&self.sum) && is_left(&self.difference)
+    }
+}
+
 fn rack<T: Format>(number: usize) -> Rack<T> {
     let decoders: Vec<_> = (0..number).map(one).collect();
     Rack::new(&decoders).expect("two to eight")
@@ -60,13 +111,36 @@ fn queues<T: Format>(random: &mut Random, lengths: &[usize]) -> Vec<Queue<T>> {
     lengths.iter().map(|n| queue(*n)).collect()
 }
 
-/// One round, which is accepted: what each decoder took, and its two outputs.
-#[allow(clippy::type_complexity)]
-fn round<T: Format>(
-    rack: &mut Rack<T>,
-    allowance: u32,
-    queues: &[Queue<T>],
-) -> (Vec<usize>, Vec<[Vec<T>; 2]>) {
+/// What each decoder took, and its two outputs.
+type Round<T> = (Vec<usize>, Vec<[Vec<T>; 2]>);
+
+/// One round over queues, which is accepted.
+fn round_by_queues<T: Format>(rack: &mut Rack<T>, allowance: u32, queues: &[Queue<T>]) -> Round<T> {
+    let mut own: Vec<_> = queues.iter().map(Own::of).collect();
+    let mut queues: Vec<_> = own.iter_mut().map(Own::queue).collect();
+    let taken = rack.round(allowance, &mut queues).expect("it is accepted");
+    assert!(taken[rack.number()..].iter().all(|n| *n == 0));
+    let outputs = own.iter().map(Own::outputs).collect();
+    (taken[..rack.number()].to_vec(), outputs)
+}
+
+/// One round, which is accepted. Over queues it leaves the same.
+fn round<T: Format>(rack: &mut Rack<T>, allowance: u32, queues: &[Queue<T>]) -> Round<T> {
+    let mut other = *rack;
+    let (taken, outputs) = round_flat(rack, allowance, queues);
+    let (by_queues, others) = round_by_queues(&mut other, allowance, queues);
+    assert_eq!(by_queues, taken);
+    for (here, there) in others.iter().flatten().zip(outputs.iter().flatten()) {
+        assert_eq!(numbers(here), numbers(there));
+    }
+    for (here, there) in other.decoders().iter().zip(rack.decoders()) {
+        assert_eq!(record_one_nan(here), record_one_nan(there));
+    }
+    (taken, outputs)
+}
+
+/// One round over flat slices, which is accepted.
+fn round_flat<T: Format>(rack: &mut Rack<T>, allowance: u32, queues: &[Queue<T>]) -> Round<T> {
     let waiting: Vec<_> = queues.iter().map(|q| Waiting::samples(q.0.len())).collect();
     let past = vec![T::LEFT; PAST];
     let mpx: Vec<T> = queues.iter().flat_map(|q| q.0.clone()).collect();
@@ -215,8 +289,11 @@ fn no_samples_are_accepted() {
             let before = rack;
             let mut sum = [T::LEFT; 2];
             let mut difference = [T::LEFT; 2];
-            // no entry is as one with nothing waiting
+            // no entry or queue is as one with nothing waiting
             for entries in [0, 1, number, 20] {
+                let mut queues: Vec<_> = (0..entries).map(|_| RackQueue::default()).collect();
+                let answer = rack.round(number as u32, &mut queues);
+                assert_eq!(answer, Ok([0; RACK_PLACES]));
                 let waiting = vec![Waiting::default(); entries];
                 let some = [T::LEFT; 2];
                 let (s, d) = (&mut sum, &mut difference);
@@ -348,6 +425,72 @@ fn entries_and_decoders_need_not_be_as_many() {
     check::<Q15>();
 }
 
+/// Queues past the number of decoders are not touched, whatever their lengths; one in between may
+/// have nothing waiting.
+#[test]
+fn queues_and_decoders_need_not_be_as_many() {
+    fn check<T: Format>() {
+        for number in 2..=RACK_PLACES {
+            let mut waits = vec![20; number];
+            waits[number / 2] = 0;
+            let all: Vec<Queue<T>> = queues(&mut Random(37), &waits);
+            let (mut want, mut got) = (rack::<T>(number), rack::<T>(number));
+            let (taken, outputs) = round_by_queues(&mut want, 15 * number as u32, &all);
+
+            let mut own: Vec<_> = all.iter().map(Own::of).collect();
+            let (mpx, pilot) = &all[0];
+            for lengths in [[20, 20], [3, 30], [0, 0], [20, 19]] {
+                own.push(Own::new(mpx, pilot, lengths[0], lengths[1]));
+                own.push(Own::new(&mpx[1..], pilot, lengths[0], lengths[1]));
+                own.push(Own::new(&[], &pilot[1..], lengths[1], lengths[0]));
+            }
+            let mut queues: Vec<_> = own.iter_mut().map(Own::queue).collect();
+            let answer = got.round(15 * number as u32, &mut queues);
+            assert_eq!(answer.map(|t| t[..number].to_vec()), Ok(taken));
+            assert_eq!(got, want);
+            for (own, outputs) in own.iter().zip(&outputs) {
+                assert_eq!(own.outputs(), *outputs);
+            }
+            assert!(own[number..].iter().all(Own::is_left));
+        }
+    }
+    check::<f32>();
+    check::<Q15>();
+}
+
+/// Several decoders may be brought the same samples.
+#[test]
+fn queues_may_have_the_same_inputs() {
+    fn check<T: Format>() {
+        let one: Queue<T> = queues(&mut Random(41), &[50]).remove(0);
+        let (mut want, mut got) = (rack::<T>(3), rack::<T>(3));
+        let (_, outputs) = round(&mut want, 99, &[one.clone(), one.clone(), one.clone()]);
+        let mut buffers = [(); 6].map(|()| vec![T::LEFT; 50]);
+        let mut queues: Vec<_> = buffers
+            .chunks_exact_mut(2)
+            .map(|pair| {
+                let [sum, difference] = pair else {
+                    unreachable!("two buffers each")
+                };
+                RackQueue {
+                    mpx: &one.0,
+                    pilot: &one.1,
+                    sum,
+                    difference,
+                }
+            })
+            .collect();
+        let answer = got.round(99, &mut queues);
+        assert_eq!(answer, Ok([33, 33, 33, 0, 0, 0, 0, 0]));
+        assert_eq!(got, want);
+        for (buffer, output) in buffers.iter().zip(outputs.iter().flatten()) {
+            assert_eq!(buffer, output);
+        }
+    }
+    check::<f32>();
+    check::<Q15>();
+}
+
 /// Lengths of mpx, pilot, sum and difference.
 type Lengths = [usize; 4];
 
@@ -365,7 +508,28 @@ fn total(parts: &[Lengths]) -> Lengths {
     [0, 1, 2, 3].map(|i| parts.iter().map(|p| p[i]).sum())
 }
 
-/// A round that is turned back leaves every decoder and every output, word by word.
+/// The parts as the ends of the flat slices cut them off.
+fn cut(parts: &[Lengths], slices: Lengths) -> Vec<Lengths> {
+    let mut left = slices;
+    let mut next = |part: &Lengths| {
+        std::array::from_fn(|i| {
+            let n = part[i].min(left[i]);
+            left[i] -= n;
+            n
+        })
+    };
+    parts.iter().map(&mut next).collect()
+}
+
+fn same_records<T: Format>(after: &Rack<T>, before: &Rack<T>) {
+    assert_eq!(after.number(), before.number());
+    for (after, before) in after.decoders().iter().zip(before.decoders()) {
+        assert_eq!(record_bits(after), record_bits(before));
+    }
+}
+
+/// A round that is turned back leaves every decoder and every output, word by word. Over queues of
+/// the same lengths it is turned back too.
 fn refused<T: Format>(
     rack: &Rack<T>,
     table: usize,
@@ -390,11 +554,21 @@ fn refused<T: Format>(
             false => after.round_flat_with(&lent, allowance, &waiting, &mpx, &pilot, s, d),
         };
         assert_eq!(answer, Err(want), "{allowance} {parts:?} {slices:?}");
-        assert_eq!(after.number(), rack.number());
-        for (after, before) in after.decoders().iter().zip(rack.decoders()) {
-            assert_eq!(record_bits(after), record_bits(before));
-        }
+        same_records(&after, rack);
         assert!(is_left(&sum) && is_left(&difference));
+
+        let own = cut(parts, slices).into_iter();
+        let mut own: Vec<_> = own
+            .map(|[m, p, s, d]| Own::new(&mpx[..m], &pilot[..p], s, d))
+            .collect();
+        let mut queues: Vec<_> = own.iter_mut().map(Own::queue).collect();
+        let answer = match own_table {
+            true => after.round(allowance, &mut queues),
+            false => after.round_with(&lent, allowance, &mut queues),
+        };
+        assert_eq!(answer, Err(want), "{allowance} {parts:?} {slices:?}");
+        same_records(&after, rack);
+        assert!(own.iter().all(Own::is_left));
     }
 }
 
@@ -676,8 +850,38 @@ fn states<T: Format>(rack: &sys::Rack<T::Value>) -> [[u64; 12]; RACK_PLACES] {
         .map(|record| record_bits(&StereoPllState::<T>::from_record(record)))
 }
 
-/// A round of the core with so many samples for each of the eight places.
-#[allow(clippy::type_complexity)]
+/// A round of the core over slices, so many in each list: the answer, and what lies in the outputs,
+/// one behind the other.
+fn core_slices<T: Format>(
+    rack: sys::Rack<T::Value>,
+    allowance: u32,
+    own: &mut [Own<T>],
+    lists: Lengths,
+    table: &[T],
+) -> (sys::Round<T::Value>, [Vec<T>; 2]) {
+    let (mut mpx, mut pilot, mut sum, mut difference) = (vec![], vec![], vec![], vec![]);
+    for queue in own.iter_mut().map(Own::queue) {
+        mpx.push(T::raw(queue.mpx));
+        pilot.push(T::raw(queue.pilot));
+        sum.push(T::raw_mut(queue.sum));
+        difference.push(T::raw_mut(queue.difference));
+    }
+    let reply = sys::rack_round_slices::<T::Raw>(
+        rack,
+        allowance,
+        T::raw(table),
+        &mpx[..lists[0]],
+        &pilot[..lists[1]],
+        &mut sum[..lists[2]],
+        &mut difference[..lists[3]],
+    );
+    let outputs = own.iter().map(Own::outputs);
+    let (sums, differences): (Vec<_>, Vec<_>) = outputs.map(|[s, d]| (s, d)).unzip();
+    (reply, [sums.concat(), differences.concat()])
+}
+
+/// A round of the core with so many samples for each of the eight places. Over slices it answers
+/// and leaves the same.
 fn core_round<T: Format>(
     rack: sys::Rack<T::Value>,
     allowance: u32,
@@ -698,6 +902,27 @@ fn core_round<T: Format>(
         T::raw_mut(&mut sum),
         T::raw_mut(&mut difference),
     );
+
+    let [mut m, mut p] = [&mpx[..], &pilot[..]];
+    let mut own = Vec::new();
+    for [m_n, p_n, s_n, d_n] in cut(
+        &parts.map(|w| [w.mpx, w.pilot, w.sum, w.difference]),
+        [n; 4],
+    ) {
+        let (own_mpx, own_pilot);
+        (own_mpx, m) = m.split_at(m_n);
+        (own_pilot, p) = p.split_at(p_n);
+        own.push(Own::new(own_mpx, own_pilot, s_n, d_n));
+    }
+    let (other, outputs) = core_slices(rack, allowance, &mut own, [RACK_PLACES; 4], table);
+    assert_eq!(other.answer, reply.answer);
+    assert_eq!(other.taken, reply.taken);
+    assert_eq!(other.rack.number, reply.rack.number);
+    assert_eq!(states::<T>(&other.rack), states::<T>(&reply.rack));
+    for (here, there) in outputs.iter().zip([&sum, &difference]) {
+        assert_eq!(all_bits(here), all_bits(&there[..here.len()]));
+        assert!(is_left(&there[here.len()..]));
+    }
     (reply, [sum, difference])
 }
 
@@ -799,6 +1024,46 @@ fn records_past_the_number_stay_by_the_c_names() {
                 }
             }
             assert!(outputs.iter().all(|x| is_left(&x[4 * number..])));
+        }
+    }
+    check::<f32>();
+    check::<Q15>();
+}
+
+/// A slice that is not in its list counts as empty, each list by itself.
+#[test]
+fn lists_may_end_early_by_the_c_names() {
+    fn check<T: Format>() {
+        let rack = core_rack::<T>(3);
+        // how many samples the third decoder has, and how many slices each list
+        for (third, lists, code) in [
+            (4, [3, 3, 3, 3], [0, 0, 0]),
+            (4, [3, 2, 3, 3], [110, 4, 0]),
+            (4, [3, 3, 2, 3], [111, 4, 0]),
+            (4, [3, 3, 3, 2], [111, 4, 0]),
+            (4, [2, 3, 3, 3], [110, 0, 4]),
+            (4, [2, 2, 3, 2], [111, 0, 4]),
+            (4, [2, 2, 2, 2], [0, 0, 0]),
+            (4, [1, 1, 1, 0], [111, 4, 0]),
+            (4, [0, 0, 0, 1], [111, 0, 4]),
+            (4, [0, 0, 0, 0], [0, 0, 0]),
+            (0, [3, 2, 3, 3], [0, 0, 0]),
+            (0, [2, 3, 2, 2], [0, 0, 0]),
+            (0, [2, 2, 3, 2], [0, 0, 0]),
+            (0, [2, 2, 2, 3], [0, 0, 0]),
+        ] {
+            let waits = [4, 4, third];
+            let each: Vec<Queue<T>> = queues(&mut Random(78), &waits);
+            let mut own: Vec<_> = each.iter().map(Own::of).collect();
+            let (reply, _) = core_slices(rack, 9, &mut own, lists, tables::cos::<T>());
+            assert_eq!(reply.answer.numbers(), code, "{third} {lists:?}");
+            for k in 0..RACK_PLACES {
+                let there = code[0] == 0 && k < lists[0] && waits[k] > 0;
+                assert_eq!(reply.taken[k], if there { 3 } else { 0 });
+                let same = states::<T>(&reply.rack)[k] == states::<T>(&rack)[k];
+                assert_eq!(same, !there);
+                assert!(there || k > 2 || own[k].is_left());
+            }
         }
     }
     check::<f32>();

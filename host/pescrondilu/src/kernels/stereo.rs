@@ -4,8 +4,8 @@
 //! The states have calls over slices: `process` with the crate's table, `process_with` with a lent
 //! one; the pilot loop also `process_merged`, which gives left and right at once, and
 //! `process_summary`, which gives figures of each period beside sum and difference. A rack has
-//! `round_flat`, a block for each of its loops. They copy no samples and give a
-//! [`Refusal`](crate::Refusal). sdrk's traits over slices of pairs stand beside them for
+//! `round`, a block for each of its loops, and `round_flat`, the same with the samples of all loops
+//! one behind the other. They copy no samples and give a [`Refusal`](crate::Refusal). sdrk's traits over slices of pairs stand beside them for
 //! [`Proved`](crate::Proved); these copy through a small scratch and give an
 //! [`Error`](crate::Error).
 
@@ -20,7 +20,7 @@ mod summary;
 pub use decoder::{StereoPll, StereoPllCoefficients, StereoPllState};
 pub use encoder::{StereoEncode, StereoEncodeRds, StereoEncodeRdsState, StereoEncodeState, on_air};
 pub use matrix::{StereoMatrix, matrix};
-pub use rack::Rack;
+pub use rack::{Rack, RackQueue};
 pub use scan::{Scanned, scan};
 pub use summary::{Summary, SummaryColumns};
 

@@ -25,30 +25,49 @@ const NUMBER: u32 = 21;
 /// `w / share` accepted rounds, rounded up, and its state is that of one block over the `w`
 /// samples.
 ///
+/// [`Rack::round`] is for decoders that have slices of their own, [`Rack::round_flat`] for those
+/// whose samples lie one behind the other. Both leave the same.
+///
 /// ```
-/// use pescrondilu::kernels::stereo::{Rack, StereoPllState, Waiting};
+/// use pescrondilu::kernels::stereo::{Rack, RackQueue, StereoPllState};
 ///
 /// let st = StereoPllState::<f32>::with_beta(19_000.0, 20.0, 0.1, 0.5, 192_000.0)?;
 /// let mut rack = Rack::new(&[st; 3])?;
 ///
 /// // Five samples wait for the first decoder, none for the second and one for the third.
-/// let waiting = [5, 0, 1].map(Waiting::samples);
-/// let (mpx, pilot) = ([0.1, 0.2, 0.3, 0.4, 0.5, 0.9], [0.0; 6]);
-/// let (mut sum, mut difference) = ([9.0; 6], [9.0; 6]);
+/// let (mpx, pilot) = ([0.1, 0.2, 0.3, 0.4, 0.5], [0.0; 5]);
+/// let (mut sum, mut difference) = ([9.0; 5], [9.0; 5]);
+/// let (mut third_sum, mut third_difference) = ([9.0], [9.0]);
+/// let first = RackQueue {
+///     mpx: &mpx,
+///     pilot: &pilot,
+///     sum: &mut sum,
+///     difference: &mut difference,
+/// };
+/// let third = RackQueue {
+///     mpx: &[0.9],
+///     pilot: &[0.0],
+///     sum: &mut third_sum,
+///     difference: &mut third_difference,
+/// };
 /// // With an allowance of 11 the share is 3.
-/// let taken = rack.round_flat(11, &waiting, &mpx, &pilot, &mut sum, &mut difference)?;
+/// let taken = rack.round(11, &mut [first, RackQueue::default(), third])?;
 /// assert_eq!(taken[..3], [3, 0, 1]);
-/// assert_eq!(sum, [0.1, 0.2, 0.3, 9.0, 9.0, 0.9]);
+/// assert_eq!((sum, third_sum), ([0.1, 0.2, 0.3, 9.0, 9.0], [0.9]));
 ///
-/// // Two samples are left for the first one.
-/// let waiting = [2, 0, 0].map(Waiting::samples);
-/// let (s, d) = (&mut sum[3..5], &mut difference[3..5]);
-/// let taken = rack.round_flat(11, &waiting, &mpx[3..5], &pilot[3..5], s, d)?;
+/// // Two samples are left for the first one. The others need no queue where nothing waits.
+/// let left = RackQueue {
+///     mpx: &mpx[3..],
+///     pilot: &pilot[3..],
+///     sum: &mut sum[3..],
+///     difference: &mut difference[3..],
+/// };
+/// let taken = rack.round(11, &mut [left])?;
 /// assert_eq!((taken[0], sum), (2, mpx));
 ///
 /// // Now it is where one block over its five samples leaves it.
 /// let mut alone = st;
-/// alone.process(&mpx[..5], &pilot[..5], &mut [0.0; 5], &mut [0.0; 5])?;
+/// alone.process(&mpx, &pilot, &mut [0.0; 5], &mut [0.0; 5])?;
 /// assert_eq!(rack.decoders()[..2], [alone, st]);
 /// # Ok::<(), pescrondilu::Refusal>(())
 /// ```
@@ -57,6 +76,20 @@ pub struct Rack<T: RealSample> {
     /// Those past the number are never seen.
     decoders: [StereoPllState<T>; RACK_PLACES],
     number: usize,
+}
+
+/// What waits for a decoder of a [`Rack`], and where its outputs go: four slices, equally long. The
+/// default has nothing waiting.
+#[derive(Debug, Default, PartialEq)]
+pub struct RackQueue<'a, T> {
+    /// The multiplex.
+    pub mpx: &'a [T],
+    /// The same signal after the pilot filter, in step with it.
+    pub pilot: &'a [T],
+    /// Becomes the sum, for the samples that are taken.
+    pub sum: &'a mut [T],
+    /// Becomes the difference, for the samples that are taken.
+    pub difference: &'a mut [T],
 }
 
 impl<T: RealSample> Rack<T> {
@@ -117,6 +150,95 @@ impl<T: RealSample> Rack<T> {
     /// One round, with the crate's table. Gives how many samples each decoder took, 0 past their
     /// number.
     ///
+    /// The first queue is the first decoder's, and so on. A decoder without a queue has nothing
+    /// waiting. Queues past the number of decoders are not touched. What of an output belongs to
+    /// samples that were not taken is left.
+    ///
+    /// # Errors
+    /// Cause 22 for an allowance smaller than the number of decoders; then the earliest decoder's
+    /// cause, which is 10 or 11, for Q15 also 0 first, with the lengths of its slices and not of its
+    /// share. All decoders and outputs stay, also those before the one at fault.
+    ///
+    /// ```
+    /// use pescrondilu::kernels::stereo::{Rack, RackQueue, StereoPllState};
+    ///
+    /// let st = StereoPllState::<f32>::with_beta(19_000.0, 20.0, 0.1, 0.5, 192_000.0)?;
+    /// let mut rack = Rack::new(&[st; 2])?;
+    /// let before = rack;
+    /// let (mpx, pilot) = ([[0.5; 3]; 2], [0.0; 3]);
+    /// let (mut sums, mut differences) = ([[9.0; 3]; 2], [[9.0; 3]; 2]);
+    /// // Each receiver has buffers of its own; the second one's pilot is a sample short.
+    /// let outputs = sums.iter_mut().zip(&mut differences);
+    /// let each = mpx.iter().zip([&pilot[..], &pilot[1..]]).zip(outputs);
+    /// let mut queues: Vec<_> = each
+    ///     .map(|((mpx, pilot), (sum, difference))| RackQueue { mpx, pilot, sum, difference })
+    ///     .collect();
+    /// let refusal = rack.round(64, &mut queues).unwrap_err();
+    /// assert_eq!((refusal.number, refusal.expected, refusal.got), (10, 3, 2));
+    /// assert_eq!((rack, sums, differences), (before, [[9.0; 3]; 2], [[9.0; 3]; 2]));
+    /// # Ok::<(), pescrondilu::Refusal>(())
+    /// ```
+    pub fn round(
+        &mut self,
+        allowance: u32,
+        queues: &mut [RackQueue<'_, T>],
+    ) -> Result<[usize; RACK_PLACES], Refusal> {
+        self.round_with(T::table(), allowance, queues)
+    }
+
+    /// As [`Rack::round`], with a table of yours: 4097 entries of any bits.
+    ///
+    /// # Errors
+    /// As [`Rack::round`], with a decoder's cause 9 before its 10.
+    ///
+    /// ```
+    /// use pescrondilu::kernels::stereo::{Rack, RackQueue, StereoPllState};
+    /// use pescrondilu::{Q15, tables};
+    ///
+    /// let st = StereoPllState::<Q15>::with_beta(19_000.0, 20.0, 0.1, 0.5, 192_000.0)?;
+    /// let mut rack = Rack::new(&[st; 2])?;
+    /// let (mut sum, mut difference) = ([Q15(0)], [Q15(0)]);
+    /// let queue = RackQueue {
+    ///     mpx: &[Q15(3)],
+    ///     pilot: &[Q15(2)],
+    ///     sum: &mut sum,
+    ///     difference: &mut difference,
+    /// };
+    /// rack.round_with(tables::cos::<Q15>(), 2, &mut [queue])?;
+    /// assert_eq!(sum, [Q15(3)]);
+    /// # Ok::<(), pescrondilu::Refusal>(())
+    /// ```
+    pub fn round_with(
+        &mut self,
+        table: &[T],
+        allowance: u32,
+        queues: &mut [RackQueue<'_, T>],
+    ) -> Result<[usize; RACK_PLACES], Refusal> {
+        // a place without a queue has empty slices
+        let [mut mpx, mut pilot] = [[T::raw(&[]); RACK_PLACES]; 2];
+        let [mut sum, mut difference] =
+            [(); 2].map(|()| [(); RACK_PLACES].map(|()| T::raw_mut(&mut [])));
+        for (k, queue) in queues.iter_mut().take(RACK_PLACES).enumerate() {
+            mpx[k] = T::raw(queue.mpx);
+            pilot[k] = T::raw(queue.pilot);
+            sum[k] = T::raw_mut(queue.sum);
+            difference[k] = T::raw_mut(queue.difference);
+        }
+        let round = sys::rack_round_slices(
+            self.core(),
+            allowance,
+            T::raw(table),
+            &mpx,
+            &pilot,
+            &mut sum,
+            &mut difference,
+        );
+        self.after(round)
+    }
+
+    /// [`Rack::round`] for samples that lie one behind the other, with the crate's table. Gives how
+    /// many samples each decoder took, 0 past their number.
+    ///
     /// Each of the four slices has the parts of all decoders, one behind the other: a decoder's
     /// part begins where that of the one before ends, and its entry of `waiting` has the four
     /// lengths. A decoder without an entry has nothing waiting; entries past the number of decoders
@@ -135,15 +257,20 @@ impl<T: RealSample> Rack<T> {
     ///
     /// let st = StereoPllState::<f32>::with_beta(19_000.0, 20.0, 0.1, 0.5, 192_000.0)?;
     /// let mut rack = Rack::new(&[st; 2])?;
-    /// let before = rack;
+    /// // Two samples wait for the first decoder and three for the second; the share is 2.
     /// let waiting = [2, 3].map(Waiting::samples);
+    /// let (mpx, pilot) = ([0.1, 0.2, 0.7, 0.8, 0.9], [0.0; 5]);
     /// let (mut sum, mut difference) = ([9.0; 5], [9.0; 5]);
-    /// // The pilot is a sample short, which cuts the second decoder's part.
+    /// let taken = rack.round_flat(4, &waiting, &mpx, &pilot, &mut sum, &mut difference)?;
+    /// assert_eq!((taken[0], taken[1], sum), (2, 2, [0.1, 0.2, 0.7, 0.8, 9.0]));
+    ///
+    /// // A pilot that is a sample short cuts the second decoder's part.
+    /// let before = (rack, sum, difference);
     /// let refusal = rack
-    ///     .round_flat(64, &waiting, &[0.5; 5], &[0.0; 4], &mut sum, &mut difference)
+    ///     .round_flat(4, &waiting, &mpx, &pilot[1..], &mut sum, &mut difference)
     ///     .unwrap_err();
     /// assert_eq!((refusal.number, refusal.expected, refusal.got), (10, 3, 2));
-    /// assert_eq!((rack, sum, difference), (before, [9.0; 5], [9.0; 5]));
+    /// assert_eq!((rack, sum, difference), before);
     /// # Ok::<(), pescrondilu::Refusal>(())
     /// ```
     pub fn round_flat(
@@ -193,12 +320,8 @@ impl<T: RealSample> Rack<T> {
         for (part, given) in parts.decoders.iter_mut().zip(waiting) {
             *part = *given;
         }
-        let rack = sys::Rack {
-            decoders: self.decoders.map(|st| st.record),
-            number: self.number,
-        };
         let round = sys::rack_round(
-            rack,
+            self.core(),
             allowance,
             parts,
             T::raw(table),
@@ -207,6 +330,19 @@ impl<T: RealSample> Rack<T> {
             T::raw_mut(sum),
             T::raw_mut(difference),
         );
+        self.after(round)
+    }
+
+    /// The rack as the core has it.
+    fn core(&self) -> sys::Rack<T::Value> {
+        sys::Rack {
+            decoders: self.decoders.map(|st| st.record),
+            number: self.number,
+        }
+    }
+
+    /// Goes on with what a round left, and gives what was taken.
+    fn after(&mut self, round: sys::Round<T::Value>) -> Result<[usize; RACK_PLACES], Refusal> {
         accepted(round.answer)?;
         for (st, record) in self.decoders.iter_mut().zip(round.rack.decoders) {
             st.record = record;
