@@ -41,6 +41,9 @@ pub struct Part {
     pub unfinished: u64,
     pub empty: u64,
     pub cut: u64,
+    // accepted rounds in whose lists of slices one lacks, and with slices past the number
+    pub lacking: u64,
+    pub past: u64,
     // rounds that a decoder's cause refused, by its place
     pub at: [u64; 8],
     // how many of our answers are a refusal, by its number
@@ -74,6 +77,8 @@ impl Part {
             unfinished: 0,
             empty: 0,
             cut: 0,
+            lacking: 0,
+            past: 0,
             at: [0; 8],
             refused: BTreeMap::new(),
             differences: 0,
@@ -180,6 +185,12 @@ impl Part {
         }
         if self.cut > 0 {
             print!(", {} with a part cut off", self.cut);
+        }
+        if self.lacking > 0 {
+            print!(", {} with a slice not there", self.lacking);
+        }
+        if self.past > 0 {
+            print!(", {} with slices past the number", self.past);
         }
         if self.stereo > 0 {
             print!(", {} in stereo", self.stereo);

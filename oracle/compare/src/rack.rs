@@ -3,6 +3,7 @@
 
 mod inputs;
 mod model;
+mod slices;
 
 use decoder_oracle::answers::{self, Call, field_words};
 use pescrondilu_sys::decoder::Way;
@@ -19,7 +20,8 @@ use crate::room::{GUARD, Room};
 use crate::summary::bits;
 use crate::summary::inputs::{Tables, Varied, decoder, found, switch, word_at};
 use inputs::{OUTSIDE, Queue, Queues, Shape};
-use model::{Answer, Asked, PLACES};
+use model::{Answer, Asked, PLACES, dealt};
+use slices::Lists;
 
 trait Compared: Ours + Varied {}
 
@@ -33,33 +35,39 @@ fn rooms<F: Compared>(a: &Asked<F::Sample>) -> [Room<F::Sample>; 2] {
     [room(sum, 1), room(difference, 2)]
 }
 
+/// The same dealt out to slices.
+fn rooms_in<F: Compared>(a: &Asked<F::Sample>, lists: &Lists) -> [Vec<Room<F::Sample>>; 2] {
+    let mut flat = rooms::<F>(a);
+    std::array::from_fn(|k| lists.rooms(a, 2 + k, flat[k].get_mut(), F::pattern))
+}
+
 /// What a round answers and leaves, in words: any NaN has one word.
 #[derive(PartialEq)]
 struct Left {
     said: Said,
     taken: [usize; PLACES],
     number: usize,
-    /// sum and difference, with the places around them
+    /// sum and difference, with the places around them; of a list all of them
     outputs: [Vec<u64>; 2],
     decoders: [[u64; 12]; PLACES],
 }
 
 fn left<F: Compared>(
     (said, taken, number): (Said, [usize; PLACES], usize),
-    rooms: [Room<F::Sample>; 2],
+    rooms: [Vec<Room<F::Sample>>; 2],
     decoders: [[u64; 12]; PLACES],
 ) -> Left {
-    let words = |room: Room<F::Sample>| room.0.into_iter().map(F::word_sample).collect();
+    let words = |room: Room<F::Sample>| room.0.into_iter().map(F::word_sample);
     Left {
         said,
         taken,
         number,
-        outputs: rooms.map(words),
+        outputs: rooms.map(|rooms| rooms.into_iter().flat_map(words).collect()),
         decoders,
     }
 }
 
-/// The first place at which the two differ. The places of an output count from the guard.
+/// The first place at which the two differ. The places of an output count from the first guard.
 fn difference(expected: &Left, got: &Left) -> String {
     if expected.said != got.said {
         return format!("said {:?}, ours {:?}", expected.said, got.said);
@@ -165,6 +173,7 @@ impl<'a, F: Compared> Session<'a, F> {
             .theirs
             .each_ref()
             .map(|s| field_words::<F>(&F::fields(s)));
+        let rooms = rooms.map(|room| vec![room]);
         let left = left::<F>((answer.said, answer.taken, a.number), rooms, decoders);
         (answer, left)
     }
@@ -172,20 +181,49 @@ impl<'a, F: Compared> Session<'a, F> {
     fn got(&mut self, a: &Asked<F::Sample>) -> Left {
         let mut rooms = rooms::<F>(a);
         let answer = ours::<F>(&mut self.ours, a, &mut rooms);
+        let rooms = rooms.map(|room| vec![room]);
         left::<F>(answer, rooms, self.ours.map(|record| record.words()))
     }
 
-    /// A round; whether both sides agree. What was taken does not wait any more.
+    /// What the model leaves, dealt out to slices.
+    fn expected_in(&self, a: &Asked<F::Sample>, lists: &Lists, flat: Left) -> Left {
+        let pattern = |w| F::word_sample(F::pattern(w));
+        let outputs = std::array::from_fn(|k| {
+            let output = &flat.outputs[k][GUARD..][..a.outputs[k]];
+            let rooms = lists.rooms(a, 2 + k, output, pattern);
+            rooms.into_iter().flat_map(|room| room.0).collect()
+        });
+        Left { outputs, ..flat }
+    }
+
+    /// The round over slices, with these records.
+    fn got_in(&self, a: &Asked<F::Sample>, lists: &Lists, mut ours: [Record<F>; PLACES]) -> Left {
+        let mut rooms = rooms_in::<F>(a, lists);
+        let answer = slices::ours::<F>(&mut ours, a, lists, &mut rooms);
+        left::<F>(answer, rooms, ours.map(|record| record.words()))
+    }
+
+    /// A round, flat and over slices; whether both agree with the model. What was taken does not
+    /// wait any more.
     fn ask(&mut self, a: &Asked<F::Sample>) -> bool {
-        let before = self.theirs;
+        let (before, ours) = (self.theirs, self.ours);
         let (answer, expected) = self.expected(a);
         let got = self.got(a);
         self.calls += 1;
         self.part.cases += 1;
         self.part.said(got.said);
-        self.count(a, &answer, &before);
+        let lists = Lists::new(a);
+        self.count(a, &answer, &before, &lists);
         if got != expected {
             let text = self.text(a, &before, &difference(&expected, &got));
+            self.part.differ_in(a.mpx.len(), text);
+            return false;
+        }
+        let expected = self.expected_in(a, &lists, expected);
+        let got = self.got_in(a, &lists, ours);
+        if got != expected {
+            let what = format!("over slices, {}", difference(&expected, &got));
+            let text = self.text(a, &before, &what);
             self.part.differ_in(a.mpx.len(), text);
             return false;
         }
@@ -196,7 +234,13 @@ impl<'a, F: Compared> Session<'a, F> {
     }
 
     /// What the round has of each sort, by the model.
-    fn count(&mut self, a: &Asked<F::Sample>, answer: &Answer, before: &[StereoPllState<F>]) {
+    fn count(
+        &mut self,
+        a: &Asked<F::Sample>,
+        answer: &Answer,
+        before: &[StereoPllState<F>],
+        lists: &Lists,
+    ) {
         let part = &mut *self.part;
         if let Some(k) = answer.refused {
             part.at[k] += 1;
@@ -211,6 +255,8 @@ impl<'a, F: Compared> Session<'a, F> {
         part.unfinished += used.clone().any(|k| taken[k] < waited[k]) as u64;
         part.empty += used.clone().any(|k| waited[k] == 0) as u64;
         part.cut += used.clone().any(|k| waited[k] < a.waiting[k][0]) as u64;
+        part.lacking += lists.lack(a) as u64;
+        part.past += lists.pass() as u64;
         let side = |s: &StereoPllState<F>| answers::side::<F>(&F::fields(s));
         let alone = before[used].iter().filter(|s| side(s) == Side::Fallback);
         part.alone += alone.count() as u64;
@@ -488,19 +534,37 @@ impl<F: Compared> Fixed<F> {
             &self.table,
             r.u32(),
         );
-        let mut rooms = rooms::<F>(&a);
-        let (said, taken, _) = ours::<F>(&mut self.records, &a, &mut rooms);
-        let mut from = 0;
-        let each = self.queues.iter_mut().zip(&mut self.outputs);
-        for ((queue, outputs), n) in each.zip(taken).take(self.number) {
-            for (all, room) in outputs.iter_mut().zip(&mut rooms) {
-                let places = room.get_mut()[from..].iter().take(n);
+        let (said, taken, given) = self.given(&a);
+        for (k, (queue, n)) in self.queues.iter_mut().zip(taken).enumerate() {
+            for (all, slices) in self.outputs[k].iter_mut().zip(&given) {
+                let places = slices.get(k).into_iter().flatten().take(n);
                 all.extend(places.map(|x| F::word_sample(*x)));
             }
-            from += queue.mpx.len();
             queue.take(n);
         }
         (said, taken)
+    }
+
+    /// A round, every second one over slices: the answer, and each decoder's outputs.
+    #[allow(clippy::type_complexity)]
+    fn given(&mut self, a: &Asked<F::Sample>) -> (Said, [usize; PLACES], [Vec<Vec<F::Sample>>; 2]) {
+        if a.word % 2 == 0 {
+            let mut rooms = rooms::<F>(a);
+            let (said, taken, _) = ours::<F>(&mut self.records, a, &mut rooms);
+            let given = std::array::from_fn(|k| {
+                let output = rooms[k].get_mut().iter().copied();
+                dealt(output, a.lengths(2 + k))
+            });
+            return (said, taken, given);
+        }
+        let lists = Lists::new(a);
+        let mut rooms = rooms_in::<F>(a, &lists);
+        let (said, taken, _) = slices::ours::<F>(&mut self.records, a, &lists, &mut rooms);
+        let given = rooms.each_mut().map(|rooms| {
+            let outputs = rooms.iter_mut().map(|room| room.get_mut().to_vec());
+            outputs.collect()
+        });
+        (said, taken, given)
     }
 
     /// A round that is refused, which is to leave all as it is.

@@ -23,6 +23,15 @@ pub struct Asked<S> {
     pub word: u32,
 }
 
+impl<S> Asked<S> {
+    /// The lengths of the parts of mpx, pilot, sum or difference. A number outside has at most those
+    /// of all places.
+    pub fn lengths(&self, of: usize) -> impl ExactSizeIterator<Item = usize> {
+        let used = self.number.min(PLACES);
+        self.waiting[..used].iter().map(move |w| w[of])
+    }
+}
+
 /// What a round answers beside the outputs and the decoders.
 pub struct Answer {
     pub said: Said,
@@ -45,7 +54,10 @@ impl Answer {
 }
 
 /// As many as the first length says to the first, then to the next, as long as there are any.
-fn dealt<T>(mut all: impl Iterator<Item = T>, lengths: impl Iterator<Item = usize>) -> Vec<Vec<T>> {
+pub fn dealt<T>(
+    mut all: impl Iterator<Item = T>,
+    lengths: impl Iterator<Item = usize>,
+) -> Vec<Vec<T>> {
     lengths.map(|n| all.by_ref().take(n).collect()).collect()
 }
 
@@ -57,9 +69,8 @@ struct Own<S> {
 
 /// What each decoder of an allowed number has.
 fn own<S: Copy>(a: &Asked<S>, [sum, difference]: [&[S]; 2]) -> Vec<Own<S>> {
-    let lengths = |of: usize| a.waiting[..a.number].iter().map(move |w| w[of]);
-    let samples = |slice: &[S], of| dealt(slice.iter().copied(), lengths(of)).into_iter();
-    let places = |slice: &[S], of| dealt(0..slice.len(), lengths(of)).into_iter();
+    let samples = |slice: &[S], of| dealt(slice.iter().copied(), a.lengths(of)).into_iter();
+    let places = |slice: &[S], of| dealt(0..slice.len(), a.lengths(of)).into_iter();
     let inputs = samples(&a.mpx, 0).zip(samples(&a.pilot, 1));
     let outputs = samples(sum, 2).zip(samples(difference, 3));
     let places = places(sum, 2).zip(places(difference, 3));
