@@ -1,16 +1,35 @@
-//! A round of a full rack beside eight blocks of `Fallback`, one after the other.
+//! A round of a full rack, flat and over slices, beside eight blocks of `Fallback`, one after the
+//! other.
 
 use std::hint::black_box;
 
 use pescrondilu_sys::decoder::Way;
-use pescrondilu_sys::rack::{PLACES, Rack, RackWaiting, Waiting, rack_round};
+use pescrondilu_sys::rack::{PLACES, Rack, RackWaiting, Waiting, rack_round, rack_round_slices};
 use sdrk_core::types::Q15;
 
 use super::{Pilot, Timed, decoders, inputs, same_outputs, same_state};
 use crate::{ACCEPTED, Staggered, ratio};
 
+/// Which of a format's two rounds.
+#[derive(Clone, Copy)]
+enum Which {
+    Flat,
+    Slices,
+}
+
+/// The parts of a flat slice, one a decoder.
+fn parts<S>(flat: &[S]) -> [&[S]; PLACES] {
+    let mut parts = flat.chunks_exact(flat.len() / PLACES);
+    [(); PLACES].map(|()| parts.next().expect("eight parts"))
+}
+
+fn parts_mut<S>(flat: &mut [S]) -> [&mut [S]; PLACES] {
+    let mut parts = flat.chunks_exact_mut(flat.len() / PLACES);
+    [(); PLACES].map(|()| parts.next().expect("eight parts"))
+}
+
 /// Each decoder has n samples waiting, and the allowance is enough for all.
-fn round<F: Timed>(n: usize) -> f64 {
+fn round<F: Timed>(which: Which, n: usize) -> f64 {
     let (state, record) = decoders::<F>(Pilot::Clean);
     let mut states = [state; PLACES];
     let mut rack = Rack {
@@ -38,7 +57,14 @@ fn round<F: Timed>(n: usize) -> f64 {
         || {
             let (x, p) = (black_box(with.mpx.get()), black_box(with.pilot.get()));
             let (s, d) = (sum.get_mut(), difference.get_mut());
-            let round = rack_round(rack, all as u32, waiting, table, x, p, s, d);
+            let round = match which {
+                Which::Flat => rack_round(rack, all as u32, waiting, table, x, p, s, d),
+                Which::Slices => {
+                    let (x, p) = (parts(x), parts(p));
+                    let (mut s, mut d) = (parts_mut(s), parts_mut(d));
+                    rack_round_slices(rack, all as u32, table, &x, &p, &mut s, &mut d)
+                }
+            };
             rack = round.rack;
             assert_eq!(black_box(round.answer), ACCEPTED);
             assert_eq!(round.taken, [n; PLACES]);
@@ -62,7 +88,9 @@ fn round<F: Timed>(n: usize) -> f64 {
 
 pub fn run() {
     for n in [64, 4096] {
-        println!("rack_f32, clean     {n:5} {:.3}", round::<f32>(n));
-        println!("rack_q15, clean     {n:5} {:.3}", round::<Q15>(n));
+        for (which, name) in [(Which::Flat, "rack"), (Which::Slices, "rack_slices")] {
+            println!("{name}_f32, clean     {n:5} {:.3}", round::<f32>(which, n));
+            println!("{name}_q15, clean     {n:5} {:.3}", round::<Q15>(which, n));
+        }
     }
 }

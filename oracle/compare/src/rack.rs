@@ -1,5 +1,6 @@
-//! A round of a rack. The original has none, so a model answers: each decoder is the original's own
-//! and runs by itself on the samples that the rule gives it.
+//! A round of a rack, over flat slices and over slices of each decoder's own. The original has none,
+//! so a model answers: each decoder is the original's own and runs by itself on the samples that the
+//! rule gives it.
 
 mod inputs;
 mod model;

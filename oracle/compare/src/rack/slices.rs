@@ -1,4 +1,4 @@
-//! A round over slices of each decoder's own: the parts of the flat slices, each in a room of its own.
+//! A round over slices of each decoder's own, which are the parts of the flat slices.
 
 use pescrondilu_sys::rack::{Rack, rack_round_slices};
 use stereo_oracle::answers::Said;
