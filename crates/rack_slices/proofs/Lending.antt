@@ -2,17 +2,18 @@
 -- records of a type of their own. Assumes nothing.
 use Prim.Native.Nat.{ℕ, _+_, _≤_, _<_, min}
 use native.Mathlib.Omega.{arith}
-use mathlib.Core.Path.{_≡_, sym, ap, _∙_}
+use mathlib.Core.Path.{_≡_, refl, sym, ap, _∙_}
 use mathlib.Core.List.{List, [], map}
 use denote.Ref.{RefT, now}
 use lib.ListN.{length, getD, set, length-map, List·getD-map}
+use lib.Seq.{map-set-same}
 use Rattle.decoder_record.specs.State.{Pll}
 use Rattle.decoder.specs.Machine.{Arithmetic}
 use Rattle.rack_waiting.specs.declared.Waiting.{Waiting}
 use Rattle.rack_waiting.specs.Agreed.{Even}
 use Rattle.rack_waiting.proofs.Loops.{map-set}
 use Rattle.rack.specs.Round.{Queue, waitingOf, turnOf}
-use Rattle.rack_slices.specs.Slices.{Slices, queuesAt, workedOf}
+use Rattle.rack_slices.specs.Slices.{addressesOf, Slices, queuesAt, workedOf}
 use Rattle.rack_slices.proofs.Places.{there, is-there, as-many}
 use Rattle.rack_slices.proofs.Working.{waits-at, even-queue, Working, working-start, sum-kept, difference-kept, working-end, working-as, same-sum, same-difference, working-next, working-past}
 
@@ -34,11 +35,14 @@ pub record Lending {A D : Type 0} (F : Arithmetic A) (pll : D → Pll A) (share 
   pub even : Even number ws
   pub waits : ws ≡ map waitingOf (queuesAt (slicesIn x p y₀ z₀))
   pub working : Working F share t (map pll ds₀) (slicesIn x p y₀ z₀) number k (map now y) (map now z) (map pll ds)
+  -- the outputs lie where they lay
+  pub sums-at : addressesOf y ≡ addressesOf y₀
+  pub differences-at : addressesOf z ≡ addressesOf z₀
 
 module _ {A D : Type 0} {F : Arithmetic A} {pll : D → Pll A} {share : ℕ} {t : List A} {ds₀ : List D} {x p y₀ z₀ : List (RefT (List A))} {ws : List Waiting} {number : ℕ} where
   pub lending-start : length ds₀ ≡ 8 → number ≤ 8 → Even number ws → ws ≡ map waitingOf (queuesAt (slicesIn x p y₀ z₀))
       → Lending F pll share t ds₀ x p y₀ z₀ ws number 0 y₀ z₀ ds₀
-  lending-start l h e w = record { places = l; eight = h; even = e; waits = w; working = working-start }
+  lending-start l h e w = record { places = l; eight = h; even = e; waits = w; working = working-start; sums-at = refl; differences-at = refl }
 
   module _ {k : ℕ} {y z : List (RefT (List A))} {ds : List D} (i : Lending F pll share t ds₀ x p y₀ z₀ ws number k y z ds) where
     abbrev s : Slices A
@@ -74,6 +78,8 @@ module _ {A D : Type 0} {F : Arithmetic A} {pll : D → Pll A} {share : ℕ} {t 
         even = i .even;
         waits = i .waits;
         working = working-as (working-past (i .working) h place here (pll d) (omega (arith, g, wait))) (ap (map now) ey) (ap (map now) ez) (ap (map pll) ed);
+        sums-at = ap addressesOf ey ∙ i .sums-at;
+        differences-at = ap addressesOf ez ∙ i .differences-at;
       }
 
       -- something does: its slices are there, and equally long
@@ -122,9 +128,10 @@ module _ {A D : Type 0} {F : Arithmetic A} {pll : D → Pll A} {share : ℕ} {t 
         -- it has its turn
         pub lending-next : (d r : D) (vy vz : RefT (List A)) {y′ z′ : List (RefT (List A))} {ds′ : List D}
             → record { taken = min share (length (lent .mpx)); sum = now vy; difference = now vz; pll = pll r } ≡ turnOf F t share (pll (getD ds k d)) lent
+            → vy .ptr ≡ getD y k empty .ptr → vz .ptr ≡ getD z k empty .ptr
             → y′ ≡ set y k vy → z′ ≡ set z k vz → ds′ ≡ set ds k r
             → Lending F pll share t ds₀ x p y₀ z₀ ws number (k + 1) y′ z′ ds′
-        lending-next d r vy vz e ey ez ed = record {
+        lending-next d r vy vz e ay az ey ez ed = record {
           places = i .places;
           eight = i .eight;
           even = i .even;
@@ -134,4 +141,6 @@ module _ {A D : Type 0} {F : Arithmetic A} {pll : D → Pll A} {share : ℕ} {t 
               (ap (map now) ey ∙ map-set now y k vy)
               (ap (map now) ez ∙ map-set now z k vz)
               (ap (map pll) ed ∙ map-set pll ds k r);
+          sums-at = ap addressesOf ey ∙ map-set-same (λ l. l .ptr) y k vy empty ay ∙ i .sums-at;
+          differences-at = ap addressesOf ez ∙ map-set-same (λ l. l .ptr) z k vz empty az ∙ i .differences-at;
         }

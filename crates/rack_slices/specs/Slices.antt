@@ -2,6 +2,7 @@
 -- document 02, request 6; that they lie so is our own choice (docs/DECISIONS.md). Definitions only.
 use Prim.Native.Nat.{ℕ}
 use mathlib.Core.List.{List, [], map}
+use denote.Ref.{RefT}
 use lib.ListN.{length, take, getD}
 use Rattle.answers.specs.Answer.{Said}
 use Rattle.answers.specs.Samples.{samples}
@@ -9,6 +10,10 @@ use Rattle.decoder_record.specs.State.{Pll}
 use Rattle.decoder.specs.Machine.{Arithmetic}
 use Rattle.rack_waiting.specs.Beside.{beside, over}
 use Rattle.rack.specs.Round.{Queue, turnOf, roundOf}
+
+-- where the slices of a list lie in memory
+abbrev pub addressesOf : {A : Type 0} → List (RefT (List A)) → List (ℕ × ℕ)
+addressesOf l = map (λ r. r .ptr) l
 
 -- four lists of slices
 pub record Slices (A : Type 0) : Type 0 where

@@ -16,7 +16,7 @@ ghost use Rattle.decoder_record.specs.Records.{pllF32};
 ghost use Rattle.decoder.specs.F32.{f32};
 ghost use Rattle.rack_waiting.specs.Agreed.{Even};
 ghost use Rattle.rack.specs.Round.{waitingOf, turnOf};
-ghost use Rattle.rack_slices.specs.Slices.{queuesAt, workedOf, slicesOf};
+ghost use Rattle.rack_slices.specs.Slices.{addressesOf, queuesAt, workedOf, slicesOf};
 
 // How long the slices of each decoder are; one that is not there counts as empty.
 fn lengths(
@@ -31,8 +31,8 @@ fn lengths(
       sum = map now (now (sum .entry));
       difference = map now (now (difference .entry));
     })))
-        × (map now (now (sum .exit)) ≡ map now (now (sum .entry)))
-        × (map now (now (difference .exit)) ≡ map now (now (difference .entry))) ⌝ }
+        × (now (sum .exit) ≡ now (sum .entry))
+        × (now (difference .exit) ≡ now (difference .entry)) ⌝ }
 {
     let none = Waiting {
         mpx: 0,
@@ -120,7 +120,7 @@ fn work(
           sum = map now (now sum);
           difference = map now (now difference);
         })) ⌝ }
-    ensures { λ r. ⌜ record {
+    ensures { λ r. ⌜ (record {
       sum = map now (now (sum .exit));
       difference = map now (now (difference .exit));
       decoders = map pllF32 r;
@@ -130,7 +130,9 @@ fn work(
           pilot = map now (now (pilot .entry));
           sum = map now (now (sum .entry));
           difference = map now (now (difference .entry));
-        }) ⌝ }
+        }))
+        × (addressesOf (now (sum .exit)) ≡ addressesOf (now (sum .entry)))
+        × (addressesOf (now (difference .exit)) ≡ addressesOf (now (difference .entry))) ⌝ }
 {
     let mut next = decoders;
     let mut k = 0usize;
@@ -160,7 +162,7 @@ pub fn round(
     sum: &mut [&mut [f32]],
     difference: &mut [&mut [f32]],
 ) -> RoundF32
-    ensures { λ r. ⌜ record {
+    ensures { λ r. ⌜ (record {
       said = says (r .answer);
       taken = r .taken;
       sum = map now (now (sum .exit));
@@ -172,7 +174,9 @@ pub fn round(
           pilot = map now (now (pilot .entry));
           sum = map now (now (sum .entry));
           difference = map now (now (difference .entry));
-        }) ⌝ }
+        }))
+        × (addressesOf (now (sum .exit)) ≡ addressesOf (now (sum .entry)))
+        × (addressesOf (now (difference .exit)) ≡ addressesOf (now (difference .entry))) ⌝ }
 {
     let waiting = lengths(mpx, pilot, sum, difference);
     let answer = round_answer(number, allowance, table.len(), [true; 8], waiting);

@@ -17,7 +17,7 @@ ghost use Rattle.decoder_record_q15.specs.Records.{pllQ15};
 ghost use Rattle.decoder_q15.specs.Q15.{q15};
 ghost use Rattle.rack_waiting.specs.Agreed.{Even};
 ghost use Rattle.rack.specs.Round.{waitingOf, turnOf};
-ghost use Rattle.rack_slices.specs.Slices.{queuesAt, workedOf, slicesOf};
+ghost use Rattle.rack_slices.specs.Slices.{addressesOf, queuesAt, workedOf, slicesOf};
 
 // How long the slices of each decoder are; one that is not there counts as empty.
 fn lengths(
@@ -32,8 +32,8 @@ fn lengths(
       sum = map now (now (sum .entry));
       difference = map now (now (difference .entry));
     })))
-        × (map now (now (sum .exit)) ≡ map now (now (sum .entry)))
-        × (map now (now (difference .exit)) ≡ map now (now (difference .entry))) ⌝ }
+        × (now (sum .exit) ≡ now (sum .entry))
+        × (now (difference .exit) ≡ now (difference .entry)) ⌝ }
 {
     let none = Waiting {
         mpx: 0,
@@ -121,7 +121,7 @@ fn work(
           sum = map now (now sum);
           difference = map now (now difference);
         })) ⌝ }
-    ensures { λ r. ⌜ record {
+    ensures { λ r. ⌜ (record {
       sum = map now (now (sum .exit));
       difference = map now (now (difference .exit));
       decoders = map pllQ15 r;
@@ -131,7 +131,9 @@ fn work(
           pilot = map now (now (pilot .entry));
           sum = map now (now (sum .entry));
           difference = map now (now (difference .entry));
-        }) ⌝ }
+        }))
+        × (addressesOf (now (sum .exit)) ≡ addressesOf (now (sum .entry)))
+        × (addressesOf (now (difference .exit)) ≡ addressesOf (now (difference .entry))) ⌝ }
 {
     let mut next = decoders;
     let mut k = 0usize;
@@ -161,7 +163,7 @@ pub fn round(
     sum: &mut [&mut [i16]],
     difference: &mut [&mut [i16]],
 ) -> RoundQ15
-    ensures { λ r. ⌜ record {
+    ensures { λ r. ⌜ (record {
       said = says (r .answer);
       taken = r .taken;
       sum = map now (now (sum .exit));
@@ -173,7 +175,9 @@ pub fn round(
           pilot = map now (now (pilot .entry));
           sum = map now (now (sum .entry));
           difference = map now (now (difference .entry));
-        }) ⌝ }
+        }))
+        × (addressesOf (now (sum .exit)) ≡ addressesOf (now (sum .entry)))
+        × (addressesOf (now (difference .exit)) ≡ addressesOf (now (difference .entry))) ⌝ }
 {
     let waiting = lengths(mpx, pilot, sum, difference);
     let answer = round_answer(
