@@ -458,7 +458,7 @@ typedef struct pescrondilu_q15_output {
  * lists of slices, each with the number of its slices after it, and decoder k's are mpx[k],
  * pilot[k], sum[k] and difference[k]. A slice that is not in its list counts as empty, so that a
  * list may end before a decoder for which nothing waits. Slices past the rack's number make no
- * difference and are not written to. The lists themselves are only read.
+ * difference and are not written to. The lists come back as they were.
  *
  * Share, taken, causes, outputs and records are those of pescrondilu_f32_rack_round, a decoder's
  * slices being its parts, of which none is cut off.
@@ -466,15 +466,15 @@ typedef struct pescrondilu_q15_output {
 pescrondilu_f32_round pescrondilu_f32_rack_round_slices(
     pescrondilu_f32_rack rack, uint32_t allowance, const float *table, size_t table_n,
     const pescrondilu_f32_input *mpx, size_t mpx_n, const pescrondilu_f32_input *pilot,
-    size_t pilot_n, const pescrondilu_f32_output *sum, size_t sum_n,
-    const pescrondilu_f32_output *difference, size_t difference_n);
+    size_t pilot_n, pescrondilu_f32_output *PESCRONDILU_RESTRICT sum, size_t sum_n,
+    pescrondilu_f32_output *PESCRONDILU_RESTRICT difference, size_t difference_n);
 
 /* The same in fixed point. Causes 21, 22; then of each decoder 0, then as in float. */
 pescrondilu_q15_round pescrondilu_q15_rack_round_slices(
     pescrondilu_q15_rack rack, uint32_t allowance, const int16_t *table, size_t table_n,
     const pescrondilu_q15_input *mpx, size_t mpx_n, const pescrondilu_q15_input *pilot,
-    size_t pilot_n, const pescrondilu_q15_output *sum, size_t sum_n,
-    const pescrondilu_q15_output *difference, size_t difference_n);
+    size_t pilot_n, pescrondilu_q15_output *PESCRONDILU_RESTRICT sum, size_t sum_n,
+    pescrondilu_q15_output *PESCRONDILU_RESTRICT difference, size_t difference_n);
 
 /*
  * Scans a pilot from its end, as the float blocks of the fast way do themselves, for a caller that

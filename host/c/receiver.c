@@ -280,9 +280,8 @@ static void share_slices(pescrondilu_f32 d)
     static float sums[2][BLOCK], differences[2][BLOCK], same[BLOCK], alone[BLOCK];
     static const pescrondilu_f32_input m[2] = {{mpx, BLOCK}, {mpx, 700}};
     static const pescrondilu_f32_input p[2] = {{pilot, BLOCK}, {pilot, 700}};
-    static const pescrondilu_f32_output sum[2] = {{sums[0], BLOCK}, {sums[1], 700}};
-    static const pescrondilu_f32_output difference[2] = {{differences[0], BLOCK},
-                                                         {differences[1], 700}};
+    static pescrondilu_f32_output sum[2] = {{sums[0], BLOCK}, {sums[1], 700}};
+    static pescrondilu_f32_output difference[2] = {{differences[0], BLOCK}, {differences[1], 700}};
     static pescrondilu_f32_rack rack;
     for (int k = 0; k < RECEIVERS; k++)
         rack.decoders[k] = d;

@@ -127,9 +127,9 @@ type SlicesCall<V, S> = unsafe extern "C" fn(
     usize,
     *const Input<S>,
     usize,
-    *const Output<S>,
+    *mut Output<S>,
     usize,
-    *const Output<S>,
+    *mut Output<S>,
     usize,
 ) -> Round<V>;
 
@@ -166,9 +166,9 @@ macro_rules! format {
                 mpx_n: usize,
                 pilot: *const Input<$sample>,
                 pilot_n: usize,
-                sum: *const Output<$sample>,
+                sum: *mut Output<$sample>,
                 sum_n: usize,
-                difference: *const Output<$sample>,
+                difference: *mut Output<$sample>,
                 difference_n: usize,
             ) -> Round<$value>;
         }
@@ -256,9 +256,9 @@ pub fn rack_round_slices<S: Racked>(
     difference: &mut [&mut [S]],
 ) -> Round<S::Value> {
     let ((mpx, mpx_n), (pilot, pilot_n)) = (inputs(mpx), inputs(pilot));
-    let ((sum, sum_n), (difference, difference_n)) = (outputs(sum), outputs(difference));
-    // SAFETY: a pointer and a length are those of one slice, in the lists too, no output overlaps
-    // another argument, and the lists are only read.
+    let ((mut sum, sum_n), (mut difference, difference_n)) = (outputs(sum), outputs(difference));
+    // SAFETY: a pointer and a length are those of one slice, in the lists too, and no output
+    // overlaps another argument.
     unsafe {
         S::RACK_ROUND_SLICES(
             rack,
@@ -269,9 +269,9 @@ pub fn rack_round_slices<S: Racked>(
             mpx_n,
             pilot.as_ptr(),
             pilot_n,
-            sum.as_ptr(),
+            sum.as_mut_ptr(),
             sum_n,
-            difference.as_ptr(),
+            difference.as_mut_ptr(),
             difference_n,
         )
     }

@@ -811,8 +811,8 @@ impl Calls {
         let allowance = self.any_allowance(rack.number);
         let lists = self.any_lists();
         let (mpx, pilot) = (lists[0].inputs(&self.in1), lists[1].inputs(&self.in2));
-        let sum = lists[2].outputs(&mut self.out1);
-        let difference = lists[3].outputs(&mut self.out2);
+        let mut sum = lists[2].outputs(&mut self.out1);
+        let mut difference = lists[3].outputs(&mut self.out2);
         let r = unsafe {
             pescrondilu_f32_rack_round_slices(
                 rack,
@@ -823,14 +823,14 @@ impl Calls {
                 lists[0].count,
                 pilot.as_ptr(),
                 lists[1].count,
-                sum.as_ptr(),
+                sum.as_mut_ptr(),
                 lists[2].count,
-                difference.as_ptr(),
+                difference.as_mut_ptr(),
                 lists[3].count,
             )
         };
         self.put_round(r, Calls::put_f32);
-        // the lists are only read
+        // the lists come back as they were
         assert_eq!(mpx, lists[0].inputs(&self.in1));
         assert_eq!(pilot, lists[1].inputs(&self.in2));
         assert_eq!(sum, lists[2].outputs(&mut self.out1));
@@ -843,8 +843,8 @@ impl Calls {
         let allowance = self.any_allowance(rack.number);
         let lists = self.any_lists();
         let (mpx, pilot) = (lists[0].inputs(&self.in1_q), lists[1].inputs(&self.in2_q));
-        let sum = lists[2].outputs(&mut self.out1_q);
-        let difference = lists[3].outputs(&mut self.out2_q);
+        let mut sum = lists[2].outputs(&mut self.out1_q);
+        let mut difference = lists[3].outputs(&mut self.out2_q);
         let r = unsafe {
             pescrondilu_q15_rack_round_slices(
                 rack,
@@ -855,14 +855,14 @@ impl Calls {
                 lists[0].count,
                 pilot.as_ptr(),
                 lists[1].count,
-                sum.as_ptr(),
+                sum.as_mut_ptr(),
                 lists[2].count,
-                difference.as_ptr(),
+                difference.as_mut_ptr(),
                 lists[3].count,
             )
         };
         self.put_round(r, Calls::put_q15);
-        // the lists are only read
+        // the lists come back as they were
         assert_eq!(mpx, lists[0].inputs(&self.in1_q));
         assert_eq!(pilot, lists[1].inputs(&self.in2_q));
         assert_eq!(sum, lists[2].outputs(&mut self.out1_q));

@@ -341,8 +341,7 @@ fn rattle_pointer(kind: &[String]) -> Option<String> {
     let kind: Vec<&str> = kind.iter().map(String::as_str).collect();
     let (element, written) = match &kind[..] {
         ["&", "[", element @ .., "]"] => (element, false),
-        // a list of outputs is only read
-        ["&", "mut", "[", element @ .., "]"] => (element, element[0] != "&"),
+        ["&", "mut", "[", element @ .., "]"] => (element, true),
         _ => return None,
     };
     let pointer = format!("{} *", in_c(&element.concat()));
