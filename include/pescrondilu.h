@@ -410,9 +410,9 @@ typedef struct pescrondilu_q15_round {
  *
  * What a decoder leaves depends on its own record, its samples and its share alone, however busy
  * the others are. The caller brings what was not taken again in the next round, from the first
- * untaken sample on. While allowance and number stay the same, w samples that wait for a decoder
- * are then all worked after w / share accepted rounds, rounded up, and its record is that of one
- * block over the w samples.
+ * untaken sample on. While allowance, number and table stay the same, w samples that wait for a
+ * decoder are then all worked after w / share accepted rounds, rounded up, and no sooner, and its
+ * record is that of one block over the w samples.
  *
  * Causes 21; 22; then those of the first decoder, of the second, and so on: 9; 10 for pilot; 11 for
  * sum, then for difference. The lengths are those of the decoder's part and not of its share, and

@@ -21,9 +21,9 @@ const NUMBER: u32 = 21;
 /// depends on its own state, its samples and its share alone, however busy the others are.
 ///
 /// What was not taken is brought again in the next round, from the first untaken sample on. While
-/// the allowance stays the same, `w` samples that wait for a decoder are then all worked after
-/// `w / share` accepted rounds, rounded up, and its state is that of one block over the `w`
-/// samples.
+/// allowance and table stay the same, `w` samples that wait for a decoder are then all worked after
+/// `w / share` accepted rounds, rounded up, and no sooner, and its state is that of one block over
+/// the `w` samples. This is proved for every list of rounds.
 ///
 /// [`Rack::round`] is for decoders that have slices of their own, [`Rack::round_flat`] for those
 /// whose samples lie one behind the other. Both leave the same.
