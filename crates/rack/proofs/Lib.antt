@@ -3,3 +3,4 @@ pub mod Working
 pub mod Turns
 pub mod Rounds
 pub mod Free
+pub mod Absent

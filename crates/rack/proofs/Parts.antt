@@ -1,5 +1,6 @@
 -- Parts of flat lists that are lent one after the other, over the element type. Assumes nothing.
-use Prim.Native.Nat.{ℕ, _+_, _-_, _^_, _≤_, _<_}
+use Prim.Native.Nat.{ℕ, _+_, _-_, _*_, _^_, _≤_, _<_}
+use native.Mathlib.Nat.{mul-le-mul}
 use native.Mathlib.Omega.{arith}
 use mathlib.Core.Path.{_≡_, sym, ap, _∙_}
 use mathlib.Core.List.{List, [], _∷_, _++_, append-assoc, append-nil}
@@ -67,3 +68,13 @@ next-fits k n h g = fits-under w64 (k + 1) 64 (omega arith) tt
 
 pub end-fits : (x n : ℕ) → x ≤ n → n < 2 ^ 63 → Fits w64 x
 end-fits x n h g = fits-under w64 x (2 ^ 63) (omega arith) tt
+
+-- the bytes before a place, of elements of s bytes
+pub scaled : (s k n : ℕ) → s ≤ 128 → k < n → n ≤ 8 → Fits w64 (k * s)
+scaled s k n e h g = fits-under w64 (k * s) 2048 (under (k * s) (mul-le-mul (below k n h g) e)) tt
+  where
+    below : (k n : ℕ) → k < n → n ≤ 8 → k ≤ 8
+    below k n h g = omega arith
+
+    under : (x : ℕ) → x ≤ 8 * 128 → x < 2048
+    under x h = omega arith

@@ -140,6 +140,7 @@ module _ {A : Type 0} (F : Arithmetic A) where
     pub as-block : (y z : List A) → roundsFor (length mpx) s ≤ n → accepts (blockOf F d t mpx pilot y z .said) ≡ true
         → record { sum = sums; difference = differences; pll = e } ≡ decodedOf (blockOf F d t mpx pilot y z)
 
+  -- no decoder is kept from its share: this holds whatever the others bring
   abbrev pub NoStarving : Type 0
   NoStarving =
       (z : Pll A) (ds : List (Pll A)) (first : Asked A) (cs : List (Asked A)) (k : ℕ) (mpx pilot : List A)

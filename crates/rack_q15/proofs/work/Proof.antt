@@ -1,20 +1,17 @@
-use Prim.Native.Nat.{ℕ, _+_, _-_, _*_, _^_, _≤_, _<_}
+use Prim.Native.Nat.{ℕ, _+_, _-_, _*_, _^_, _<_}
 use mathlib.Core.Path.{_≡_, _∙_}
-use mathlib.Core.Bool.{false}
 use mathlib.Core.List.{map}
 use native.Mathlib.Omega.{arith}
-use borrow.Author.Needs.{needs, fits-under}
-use mir.Syntax.{w64}
-use mir.Val.{Fits}
+use borrow.Author.Needs.{needs}
 use lib.ListN.{length, length-map, length-set, List·getD-map}
-use lib.IntN.{ℤ, pos}
+use lib.IntN.{ℤ}
 use Rattle.answers.specs.Answer.{says}
-use Rattle.decoder_record_q15.specs.declared.pll_q15.StereoPllQ15.{StereoPllQ15}
 use Rattle.decoder_record_q15.specs.Records.{pllQ15}
 use Rattle.decoder_q15.specs.Q15.{q15}
 use Rattle.rack.specs.Round.{Queue}
 use Rattle.rack_waiting.proofs.Loops.{map-set}
-use Rattle.rack.proofs.Parts.{small, place, falls, next-fits, end-fits}
+use Rattle.rack_q15.proofs.Absent.{absent}
+use Rattle.rack.proofs.Parts.{scaled, small, place, falls, next-fits, end-fits}
 use Rattle.rack.proofs.Working.{Working, Inside, working-start, sum-kept, difference-kept, working-end, room, taken-room, working-next}
 use Rattle.rack_q15.proofs.work.Statement.{statement}
 use Rattle.rack_q15.proofs.work.Tie as tie
@@ -27,13 +24,6 @@ Inv-loop number share table mpx pilot sum₀ difference₀ parts next₀ k₀ a�
 
 abbrev μ-loop : tie.MeasureT-loop
 μ-loop number share table mpx pilot sum₀ difference₀ parts next₀ k₀ a₀ sum difference next k a = number - k
-
--- what the logic reads past the end of an array of decoders
-abbrev absent : StereoPllQ15
-absent = record { kp = pos 0; ki = pos 0; imax = pos 0; beta = pos 0; on = pos 0; off = pos 0; step0 = 0; phase = 0; integ = pos 0; level = pos 0; stereo = false; enabled = false }
-
-scaled : (k n : ℕ) → k < n → n ≤ 8 → Fits w64 (k * 80)
-scaled k n h g = fits-under w64 (k * 80) 1024 (omega arith) tt
 
 -- one turn, once it is known how many samples the decoder takes
 module _ (l : tie.After-least Inv-loop μ-loop) where
@@ -119,7 +109,7 @@ work-spec =
     (λ c. search needs)
     (λ c. let l = c .before .before .before .before in omega (arith, lent l .difference, difference-kept (at l .loop .inv .3)))
     (λ c κs. search needs)
-    (λ c. scaled (k (l c)) (start (l c) .args .number) (h (l c)) (start (l c) .pre .0))
+    (λ c. scaled 80 (k (l c)) (start (l c) .args .number) (omega arith) (h (l c)) (start (l c) .pre .0))
     (λ c. small (k (l c)) (start (l c) .args .number) (h (l c)) (start (l c) .pre .0))
     (λ r. let t = l (r .before) in end-fits _ (length (start t .args .mpx .now)) (room (at t .loop .inv .3) _ (h t) (here t) .mpx) (omega (arith, of-mpx t)))
     (λ r. let t = l (r .before) in next-fits (k t) (start t .args .number) (h t) (start t .pre .0))

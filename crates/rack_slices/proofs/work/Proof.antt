@@ -1,17 +1,13 @@
-use Prim.Native.Nat.{ℕ, _-_, _*_, _≤_, _<_}
+use Prim.Native.Nat.{_-_, _<_}
 use mathlib.Core.Path.{refl}
-use mathlib.Core.Bool.{false}
 use mathlib.Core.Logic.{⊎-elim}
 use native.Mathlib.Omega.{arith}
-use borrow.Author.Needs.{needs, fits-under}
-use mir.Syntax.{w64}
-use mir.Val.{Fits}
+use borrow.Author.Needs.{needs}
 use lib.ListN.{length}
-use lib.Ieee.{nan}
-use Rattle.decoder_record.specs.declared.pll_f32.StereoPllF32.{StereoPllF32}
 use Rattle.decoder_record.specs.Records.{pllF32}
 use Rattle.decoder.specs.F32.{f32}
-use Rattle.rack.proofs.Parts.{small, falls, next-fits}
+use Rattle.rack.proofs.Absent.{absent}
+use Rattle.rack.proofs.Parts.{scaled, small, falls, next-fits}
 use Rattle.rack_slices.proofs.Lending.{Lending, lending-start, sums-kept, differences-kept, lending-end, lending-past, in-mpx, in-pilot, in-sum, in-difference, lent-long, lending-next}
 use Rattle.rack_slices.proofs.work.Statement.{statement}
 use Rattle.rack_slices.proofs.work.Tie as tie
@@ -22,13 +18,6 @@ Inv-loop number share table mpx pilot sum₀ difference₀ waiting next₀ k₀ 
 
 abbrev μ-loop : tie.MeasureT-loop
 μ-loop number share table mpx pilot sum₀ difference₀ waiting next₀ k₀ sum difference next k = number - k
-
--- what the logic reads past the end of an array of decoders
-abbrev absent : StereoPllF32
-absent = record { kp = nan; ki = nan; imax = nan; beta = nan; on = nan; off = nan; step0 = 0; phase = 0; integ = nan; level = nan; stereo = false; enabled = false }
-
-scaled : (k n : ℕ) → k < n → n ≤ 8 → Fits w64 (k * 44)
-scaled k n h g = fits-under w64 (k * 44) 512 (omega arith) tt
 
 -- the decoder at k, once it is known what waits
 module _ (v : tie.After-w Inv-loop μ-loop) where
@@ -82,7 +71,7 @@ work-spec =
     (λ c. difference-there (c .before .before .before .before))
     (λ c. refl)
     (λ c κs. let t = c .before .before .before .before .before in lent-long (at (w t) .loop .inv) (h (w t)) (t .if1 .taken))
-    (λ c. let v = w (c .before .before .before .before .before .before) in scaled (at v .loop .k) _ (h v) (at v .loop .inv .eight))
+    (λ c. let v = w (c .before .before .before .before .before .before) in scaled 44 (at v .loop .k) _ (omega arith) (h v) (at v .loop .inv .eight))
     (λ c. let v = w (c .before .before .before .before .before .before) in small (at v .loop .k) _ (h v) (at v .loop .inv .eight))
     (λ c. let v = c .before .before in next-fits (at v .loop .k) _ (h v) (at v .loop .inv .eight))
     (λ c. let v = c .before .before in falls (at v .loop .k) _ (h v))

@@ -1,17 +1,13 @@
-use Prim.Native.Nat.{ℕ, _-_, _*_, _≤_, _<_}
+use Prim.Native.Nat.{_-_, _<_}
 use mathlib.Core.Path.{refl}
-use mathlib.Core.Bool.{false}
 use mathlib.Core.Logic.{⊎-elim}
 use native.Mathlib.Omega.{arith}
-use borrow.Author.Needs.{needs, fits-under}
-use mir.Syntax.{w64}
-use mir.Val.{Fits}
+use borrow.Author.Needs.{needs}
 use lib.ListN.{length}
-use lib.IntN.{pos}
-use Rattle.decoder_record_q15.specs.declared.pll_q15.StereoPllQ15.{StereoPllQ15}
 use Rattle.decoder_record_q15.specs.Records.{pllQ15}
 use Rattle.decoder_q15.specs.Q15.{q15}
-use Rattle.rack.proofs.Parts.{small, falls, next-fits}
+use Rattle.rack_q15.proofs.Absent.{absent}
+use Rattle.rack.proofs.Parts.{scaled, small, falls, next-fits}
 use Rattle.rack_slices.proofs.Lending.{Lending, lending-start, sums-kept, differences-kept, lending-end, lending-past, in-mpx, in-pilot, in-sum, in-difference, lent-long, lending-next}
 use Rattle.rack_slices_q15.proofs.work.Statement.{statement}
 use Rattle.rack_slices_q15.proofs.work.Tie as tie
@@ -22,13 +18,6 @@ Inv-loop number share table mpx pilot sum₀ difference₀ waiting next₀ k₀ 
 
 abbrev μ-loop : tie.MeasureT-loop
 μ-loop number share table mpx pilot sum₀ difference₀ waiting next₀ k₀ sum difference next k = number - k
-
--- what the logic reads past the end of an array of decoders
-abbrev absent : StereoPllQ15
-absent = record { kp = pos 0; ki = pos 0; imax = pos 0; beta = pos 0; on = pos 0; off = pos 0; step0 = 0; phase = 0; integ = pos 0; level = pos 0; stereo = false; enabled = false }
-
-scaled : (k n : ℕ) → k < n → n ≤ 8 → Fits w64 (k * 80)
-scaled k n h g = fits-under w64 (k * 80) 1024 (omega arith) tt
 
 -- the decoder at k, once it is known what waits
 module _ (v : tie.After-w Inv-loop μ-loop) where
@@ -82,7 +71,7 @@ work-spec =
     (λ c. difference-there (c .before .before .before .before))
     (λ c. refl)
     (λ c κs. let t = c .before .before .before .before .before in lent-long (at (w t) .loop .inv) (h (w t)) (t .if1 .taken))
-    (λ c. let v = w (c .before .before .before .before .before .before) in scaled (at v .loop .k) _ (h v) (at v .loop .inv .eight))
+    (λ c. let v = w (c .before .before .before .before .before .before) in scaled 80 (at v .loop .k) _ (omega arith) (h v) (at v .loop .inv .eight))
     (λ c. let v = w (c .before .before .before .before .before .before) in small (at v .loop .k) _ (h v) (at v .loop .inv .eight))
     (λ c. let v = c .before .before in next-fits (at v .loop .k) _ (h v) (at v .loop .inv .eight))
     (λ c. let v = c .before .before in falls (at v .loop .k) _ (h v))
