@@ -5,8 +5,8 @@
  *
  *     cc program.c -Iinclude -Ltarget/staticlib -lpescrondilu -lm
  *
- * (The library needs the C library's memcpy and nothing else; -lm is for a program that makes its
- * table by cos.)
+ * (The library needs the C library's memcpy and memset and nothing else; -lm is for a program that
+ * makes its table by cos.)
  * host/c/receiver.c is an example.
  *
  * What the caller owes
@@ -172,6 +172,27 @@ typedef struct pescrondilu_q15_reply {
 } pescrondilu_q15_reply;
 
 /*
+ * The same of a float block of the fast way, and between them how many of the block's phase
+ * corrections took the wide way. Each sample has one correction, of f = kp times the detector's
+ * error plus the integrator. From f = -524288 up to, and without, f = 524288 the quick way serves,
+ * which is one addition. Else, and where f is NaN, the wide way is taken: it gives the same and
+ * takes longer. (In exact words: where v = f times 2^32 plus 0.5, as doubles, is below 2^51 in
+ * magnitude, the quick way serves. A NaN is not below.)
+ *
+ * wide is from 0 to the block's number of samples, and counts this block alone. 0 is the usual
+ * case: each sample went the quick way. A refused block carries no count, and has 0 there too.
+ *
+ * From a decoder that pescrondilu_f32_new returned, wide is 0 in every block as long as these hold:
+ * kp + imax, added as floats, is at most 262144; and in every block since the start or the last
+ * reset each pilot sample and each entry of the table is in -1 to 1. This is proved.
+ */
+typedef struct pescrondilu_f32_counted {
+    pescrondilu_answer answer;
+    size_t wide;
+    pescrondilu_f32 decoder;
+} pescrondilu_f32_counted;
+
+/*
  * A decoder's read-outs, in the same units for both formats: integrator and limit in turns a
  * sample, and the lock level, which settles at half the pilot's amplitude.
  */
@@ -226,20 +247,27 @@ pescrondilu_readout pescrondilu_q15_read(pescrondilu_q15 d);
  * Decodes a block, the fast way. mpx is the multiplex, and pilot the same signal after the
  * caller's pilot filter, in step with it. sum becomes mpx. difference becomes mpx times the sine
  * of twice the phase while the decoder says stereo and is enabled, else 0. The caller filters both
- * to the audio band. Causes 9; 10 for pilot; 11 for sum, then for difference.
+ * to the audio band. wide counts the corrections that took the wide way.
+ * Causes 9; 10 for pilot; 11 for sum, then for difference.
  */
-pescrondilu_f32_reply pescrondilu_f32_block(
+pescrondilu_f32_counted pescrondilu_f32_block(
     pescrondilu_f32 d, const float *table, size_t table_n, const float *mpx, size_t mpx_n,
     const float *pilot, size_t pilot_n, float *PESCRONDILU_RESTRICT sum, size_t sum_n,
     float *PESCRONDILU_RESTRICT difference, size_t difference_n);
 
-/* The same in fixed point; a sample of 32768 would be 1. Causes 0, then as in float. */
+/*
+ * The same in fixed point; a sample of 32768 would be 1. Causes 0, then as in float. There is one
+ * way to correct the phase, so that nothing is counted.
+ */
 pescrondilu_q15_reply pescrondilu_q15_block(
     pescrondilu_q15 d, const int16_t *table, size_t table_n, const int16_t *mpx, size_t mpx_n,
     const int16_t *pilot, size_t pilot_n, int16_t *PESCRONDILU_RESTRICT sum, size_t sum_n,
     int16_t *PESCRONDILU_RESTRICT difference, size_t difference_n);
 
-/* The same blocks, the plain way: equal answers, outputs and records, and slower. Same causes. */
+/*
+ * The same blocks, the plain way: equal answers, outputs and records, and slower. Same causes.
+ * Nothing is counted, since the quick way is not tried.
+ */
 pescrondilu_f32_reply pescrondilu_f32_plain_block(
     pescrondilu_f32 d, const float *table, size_t table_n, const float *mpx, size_t mpx_n,
     const float *pilot, size_t pilot_n, float *PESCRONDILU_RESTRICT sum, size_t sum_n,
@@ -251,11 +279,11 @@ pescrondilu_q15_reply pescrondilu_q15_plain_block(
 
 /*
  * Left and right from one call, the fast way: sum + 2 difference and sum - 2 difference of what
- * pescrondilu_f32_block would give, and the same record. The caller filters left and right to the
- * audio band. In mono the difference is +0, so that an mpx of -0.0f gives left +0 and right -0.
- * Causes 9; 10 for pilot; 11 for left, then for right.
+ * pescrondilu_f32_block would give, and the same record and count. The caller filters left and
+ * right to the audio band. In mono the difference is +0, so that an mpx of -0.0f gives left +0 and
+ * right -0. Causes 9; 10 for pilot; 11 for left, then for right.
  */
-pescrondilu_f32_reply pescrondilu_f32_merged_block(
+pescrondilu_f32_counted pescrondilu_f32_merged_block(
     pescrondilu_f32 d, const float *table, size_t table_n, const float *mpx, size_t mpx_n,
     const float *pilot, size_t pilot_n, float *PESCRONDILU_RESTRICT left, size_t left_n,
     float *PESCRONDILU_RESTRICT right, size_t right_n);
@@ -298,9 +326,13 @@ typedef struct pescrondilu_q15_summary {
     uint32_t before;
 } pescrondilu_q15_summary;
 
-/* What a block with its summary answers, and the decoder and the summary after it. */
+/*
+ * What a block with its summary answers, and the decoder and the summary after it. In float wide is
+ * the block's count of wide corrections; it goes by the block and not by the period.
+ */
 typedef struct pescrondilu_f32_summary_reply {
     pescrondilu_answer answer;
+    size_t wide;
     pescrondilu_f32 decoder;
     pescrondilu_f32_summary summary;
 } pescrondilu_f32_summary_reply;
@@ -382,10 +414,14 @@ typedef struct pescrondilu_rack_waiting {
     pescrondilu_waiting decoders[PESCRONDILU_RACK_PLACES];
 } pescrondilu_rack_waiting;
 
-/* What a round answers, how many samples each decoder took, and the rack after it. */
+/*
+ * What a round answers, how many samples each decoder took, in float how many of its corrections
+ * took the wide way, and the rack after it.
+ */
 typedef struct pescrondilu_f32_round {
     pescrondilu_answer answer;
     size_t taken[PESCRONDILU_RACK_PLACES];
+    size_t wide[PESCRONDILU_RACK_PLACES];
     pescrondilu_f32_rack rack;
 } pescrondilu_f32_round;
 
@@ -400,7 +436,8 @@ typedef struct pescrondilu_q15_round {
  * that many of the samples that wait for it, or all of them where fewer wait; the rest of the
  * allowance lapses. Its outputs and its next record are those that pescrondilu_f32_block gives it
  * alone, over the samples that it took. Its outputs past these are left. taken[k] is the number of
- * samples that decoder k took, and 0 past the rack's number.
+ * samples that decoder k took, and wide[k] how many of their corrections took the wide way; both are
+ * 0 past the rack's number.
  *
  * mpx, pilot, sum and difference have the parts of all decoders, one behind the other: decoder k's
  * part begins where that of the one before ends, and waiting.decoders[k] has its four lengths. A
@@ -417,7 +454,7 @@ typedef struct pescrondilu_q15_round {
  * Causes 21; 22; then those of the first decoder, of the second, and so on: 9; 10 for pilot; 11 for
  * sum, then for difference. The lengths are those of the decoder's part and not of its share, and
  * they are asked for also where nothing waits. A refused round leaves all records and outputs, also
- * those of the decoders before the one at fault, and taken is 0 everywhere.
+ * those of the decoders before the one at fault, and taken and wide are 0 everywhere.
  */
 pescrondilu_f32_round pescrondilu_f32_rack_round(
     pescrondilu_f32_rack rack, uint32_t allowance, pescrondilu_rack_waiting waiting,
@@ -460,8 +497,8 @@ typedef struct pescrondilu_q15_output {
  * list may end before a decoder for which nothing waits. Slices past the rack's number make no
  * difference and are not written to. The lists come back as they were.
  *
- * Share, taken, causes, outputs and records are those of pescrondilu_f32_rack_round, a decoder's
- * slices being its parts, of which none is cut off.
+ * Share, taken, wide, causes, outputs and records are those of pescrondilu_f32_rack_round, a
+ * decoder's slices being its parts, of which none is cut off.
  */
 pescrondilu_f32_round pescrondilu_f32_rack_round_slices(
     pescrondilu_f32_rack rack, uint32_t allowance, const float *table, size_t table_n,
@@ -687,6 +724,12 @@ typedef struct pescrondilu_q14 {
     int16_t value;
 } pescrondilu_q14;
 
+/* A phase correction, and whether the quick way served. */
+typedef struct pescrondilu_corrected {
+    uint32_t step;
+    bool quick;
+} pescrondilu_corrected;
+
 /* x limited to -32768 to 32767. */
 int16_t pescrondilu_sat16(int64_t x);
 
@@ -747,10 +790,14 @@ pescrondilu_q14 pescrondilu_q14_from_f64(double x);
 
 /*
  * The phase correction: floor(f times 2^32 + 0.5), stopping at the ends of int64_t, modulo 2^32; a
- * NaN gives 0. Both ways are equal.
+ * NaN gives 0. Both give the same step; the fast one says whether its quick way served, and takes the
+ * plain way where it did not.
  */
 uint32_t pescrondilu_correction_plain(float f);
-uint32_t pescrondilu_correction_fast(float f);
+pescrondilu_corrected pescrondilu_correction_fast(float f);
+
+/* Whether the quick way serves for v = f times 2^32 + 0.5: |v| is below 2^51, which a NaN is not. */
+bool pescrondilu_quick_serves(double v);
 
 /*
  * The cosine of a phase by the table, n being its length; the pair has the sine too. The two in

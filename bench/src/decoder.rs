@@ -9,7 +9,7 @@ pub mod summary;
 
 use std::hint::black_box;
 
-use pescrondilu_sys::decoder::{self, Decoder, Way};
+use pescrondilu_sys::decoder::{self, Count as _, Decoder};
 use pescrondilu_sys::rack::Racked;
 use pescrondilu_sys::summary::Summed;
 use sdrk_core::error::Error;
@@ -21,6 +21,13 @@ use sdrk_core::types::{C32, CQ15, Q15, RealSample};
 use sdrk_core::{Fallback, Reference};
 
 use crate::{ACCEPTED, Staggered, ratio, wave, wave_q15};
+
+/// Which of our two blocks, and of the original's.
+#[derive(Clone, Copy)]
+enum Way {
+    Plain,
+    Fast,
+}
 
 /// What the pilot is.
 #[derive(Clone, Copy, PartialEq)]
@@ -273,14 +280,26 @@ fn block<F: Timed>(way: Way, pilot: Pilot, n: usize) -> f64 {
     let mut sum = Staggered::new(2, n, |i| F::mpx(i).raw());
     let mut difference = Staggered::new(3, n, |i| F::mpx(i).raw());
     let mut output = Staggered::new(6, n, |_| F::zero());
+    let mut wide = 0;
     let answer = ratio(
         n,
         || {
             let (x, p) = (black_box(with.mpx.get()), black_box(with.pilot.get()));
             let (s, d) = (sum.get_mut(), difference.get_mut());
-            let reply = decoder::block(way, ours, table, x, p, s, d);
-            ours = reply.decoder;
-            assert_eq!(black_box(reply.answer), ACCEPTED);
+            let answer = match way {
+                Way::Plain => {
+                    let reply = decoder::plain_block(ours, table, x, p, s, d);
+                    ours = reply.decoder;
+                    reply.answer
+                }
+                Way::Fast => {
+                    let reply = decoder::block(ours, table, x, p, s, d);
+                    ours = reply.decoder;
+                    wide += reply.wide.number();
+                    reply.answer
+                }
+            };
+            assert_eq!(black_box(answer), ACCEPTED);
         },
         || {
             let (x, p) = (with.their_mpx.get(), with.their_pilot.get());
@@ -289,6 +308,7 @@ fn block<F: Timed>(way: Way, pilot: Pilot, n: usize) -> f64 {
             assert!(black_box(done).is_ok());
         },
     );
+    assert_eq!(wide, 0, "the quick path is timed");
     same_state(&ours, &state);
     same_outputs::<F>(sum.get(), difference.get(), output.get());
     answer
@@ -302,6 +322,7 @@ fn merged<F: Timed>(pilot: Pilot, n: usize) -> f64 {
     let mut right = Staggered::new(3, n, |i| F::mpx(i).raw());
     let mut decoded = Staggered::new(6, n, |_| F::zero());
     let mut output = Staggered::new(7, n, |_| F::zero());
+    let mut wide = 0;
     let answer = ratio(
         n,
         || {
@@ -309,6 +330,7 @@ fn merged<F: Timed>(pilot: Pilot, n: usize) -> f64 {
             let (l, r) = (left.get_mut(), right.get_mut());
             let reply = decoder::merged_block(ours, table, x, p, l, r);
             ours = reply.decoder;
+            wide += reply.wide.number();
             assert_eq!(black_box(reply.answer), ACCEPTED);
         },
         || {
@@ -320,6 +342,7 @@ fn merged<F: Timed>(pilot: Pilot, n: usize) -> f64 {
             assert!(black_box(done).is_ok());
         },
     );
+    assert_eq!(wide, 0, "the quick path is timed");
     same_state(&ours, &state);
     same_outputs::<F>(left.get(), right.get(), output.get());
     answer

@@ -2,7 +2,7 @@
 //! sdrk's. Put it beside the module `fallback`, with `mod proved; pub use proved::Proved;`.
 
 use bytemuck::{cast_slice, cast_slice_mut};
-use pescrondilu_sys::decoder::{self, Decoder, Way};
+use pescrondilu_sys::decoder::{self, Decoder};
 use pescrondilu_sys::{Code, encoder};
 
 use crate::error::{Error, Result};
@@ -78,7 +78,7 @@ macro_rules! stereo_pll {
                     let (s, d) = (&mut sum[..m.len()], &mut difference[..m.len()]);
                     let (raw_s, raw_d) = (cast_slice_mut(s), cast_slice_mut(d));
                     let (m, p) = (cast_slice(m), cast_slice(p));
-                    let reply = decoder::block(Way::Fast, record, &$table[..], m, p, raw_s, raw_d);
+                    let reply = decoder::block(record, &$table[..], m, p, raw_s, raw_d);
                     accepted(reply.answer)?;
                     record = reply.decoder;
                     join(s, d, o);

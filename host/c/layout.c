@@ -63,6 +63,11 @@ SIZE(pescrondilu_q15_reply, 104);
 FIELD(pescrondilu_q15_reply, answer, 0);
 FIELD(pescrondilu_q15_reply, decoder, 24);
 
+SIZE(pescrondilu_f32_counted, 80);
+FIELD(pescrondilu_f32_counted, answer, 0);
+FIELD(pescrondilu_f32_counted, wide, 24);
+FIELD(pescrondilu_f32_counted, decoder, 32);
+
 SIZE(pescrondilu_readout, 40);
 FIELD(pescrondilu_readout, integrator, 0);
 FIELD(pescrondilu_readout, integrator_limit, 8);
@@ -87,10 +92,11 @@ FIELD(pescrondilu_q15_summary, changes, 12);
 FIELD(pescrondilu_q15_summary, magnitude, 16);
 FIELD(pescrondilu_q15_summary, before, 20);
 
-SIZE(pescrondilu_f32_summary_reply, 96);
+SIZE(pescrondilu_f32_summary_reply, 104);
 FIELD(pescrondilu_f32_summary_reply, answer, 0);
-FIELD(pescrondilu_f32_summary_reply, decoder, 24);
-FIELD(pescrondilu_f32_summary_reply, summary, 72);
+FIELD(pescrondilu_f32_summary_reply, wide, 24);
+FIELD(pescrondilu_f32_summary_reply, decoder, 32);
+FIELD(pescrondilu_f32_summary_reply, summary, 80);
 
 SIZE(pescrondilu_q15_summary_reply, 128);
 FIELD(pescrondilu_q15_summary_reply, answer, 0);
@@ -114,10 +120,11 @@ FIELD(pescrondilu_waiting, difference, 24);
 SIZE(pescrondilu_rack_waiting, 256);
 FIELD(pescrondilu_rack_waiting, decoders, 0);
 
-SIZE(pescrondilu_f32_round, 480);
+SIZE(pescrondilu_f32_round, 544);
 FIELD(pescrondilu_f32_round, answer, 0);
 FIELD(pescrondilu_f32_round, taken, 24);
-FIELD(pescrondilu_f32_round, rack, 88);
+FIELD(pescrondilu_f32_round, wide, 88);
+FIELD(pescrondilu_f32_round, rack, 152);
 
 SIZE(pescrondilu_q15_round, 736);
 FIELD(pescrondilu_q15_round, answer, 0);
@@ -201,3 +208,7 @@ FIELD(pescrondilu_pair, s, 4);
 SIZE(pescrondilu_q14, 8);
 FIELD(pescrondilu_q14, code, 0);
 FIELD(pescrondilu_q14, value, 4);
+
+SIZE(pescrondilu_corrected, 8);
+FIELD(pescrondilu_corrected, step, 0);
+FIELD(pescrondilu_corrected, quick, 4);

@@ -47,6 +47,13 @@ static void expect(int as_expected, const char *what)
     }
 }
 
+/* How many phase corrections left the quick path, where any did. */
+static void tell_wide(const char *where, size_t wide)
+{
+    if (wide != 0)
+        printf("%s: %zu corrections took the wide way\n", where, wide);
+}
+
 /*
  * The amplitude of a tone in the last MEASURED samples. A receiver has a low-pass before, against
  * what is left of the pilot and the subcarriers. The library has no filters, and this measure is
@@ -140,12 +147,14 @@ static pescrondilu_f32 receive_f32(void)
 
     /* The decoder is a plain struct. Each block is handed it and gives the next one back. */
     pescrondilu_f32 d = made.decoder;
+    size_t wide = 0;
     for (int at = 0; at < TOTAL; at += BLOCK) {
-        pescrondilu_f32_reply reply = pescrondilu_f32_merged_block(
+        pescrondilu_f32_counted reply = pescrondilu_f32_merged_block(
             d, table, PESCRONDILU_TABLE_LENGTH, mpx + at, BLOCK, pilot + at, BLOCK, left + at,
             BLOCK, right + at, BLOCK);
         expect(reply.answer.code == 0, "the f32 block is accepted");
         d = reply.decoder;
+        wide += reply.wide;
         if (at == 0 || at == 2 * BLOCK)
             printf("f32 after %3d ms: level %.4f, lamp %s\n", (at + BLOCK) / (int)(RATE / 1000),
                    pescrondilu_f32_read(d).lock_level, d.stereo ? "on" : "off");
@@ -153,6 +162,8 @@ static pescrondilu_f32 receive_f32(void)
 
     pescrondilu_readout r = pescrondilu_f32_read(d);
     printf("f32 at the end:   level %.4f, lamp %s\n", r.lock_level, r.stereo ? "on" : "off");
+    tell_wide("f32", wide);
+    expect(wide == 0, "with pilot and table in -1 to 1 no correction takes the wide way");
     expect(fabs(r.lock_level - PILOT / 2) < 0.001, "the level settles at half the amplitude");
     expect(r.stereo == 1, "the f32 lamp is on");
     separated("f32", tone(left, LEFT_HZ), tone(right, LEFT_HZ), tone(right, RIGHT_HZ),
@@ -202,6 +213,7 @@ static void summarize(void)
             d, s, table, PESCRONDILU_TABLE_LENGTH, mpx + at, BLOCK, pilot + at, BLOCK, sum, BLOCK,
             difference, BLOCK, stereo, ending, mono, ending, changes, ending, magnitude, ending);
         expect(reply.answer.code == 0, "the block with its summary is accepted");
+        tell_wide("summary", reply.wide);
         d = reply.decoder;
         s = reply.summary;
         if (ending == 0)
@@ -249,14 +261,16 @@ static void share(pescrondilu_f32 d)
                                        n, p, n, sum, n, difference, n);
         expect(reply.answer.code == 0, "the round is accepted");
         memcpy(first + at[0], difference, reply.taken[0] * sizeof *first);
-        for (int k = 0; k < RECEIVERS; k++)
+        for (int k = 0; k < RECEIVERS; k++) {
             at[k] += reply.taken[k];
+            tell_wide("rack", reply.wide[k]);
+        }
         rack = reply.rack;
     }
     printf("rack: %u rounds, %zu, %zu and %zu samples taken\n", rounds, at[0], at[1], at[2]);
     expect(rounds == 4 && at[1] == 700, "1920 samples at 500 a round are worked in four");
 
-    pescrondilu_f32_reply reply =
+    pescrondilu_f32_counted reply =
         pescrondilu_f32_block(d, table, PESCRONDILU_TABLE_LENGTH, mpx, BLOCK, pilot, BLOCK, same,
                               BLOCK, alone, BLOCK);
     expect(memcmp(&rack.decoders[0], &reply.decoder, sizeof d) == 0 &&
@@ -294,7 +308,7 @@ static void share_slices(pescrondilu_f32 d)
            round.taken[2]);
     expect(round.answer.code == 0, "the round over slices is accepted");
 
-    pescrondilu_f32_reply reply =
+    pescrondilu_f32_counted reply =
         pescrondilu_f32_block(d, table, PESCRONDILU_TABLE_LENGTH, mpx, 700, pilot, 700, same, 700,
                               alone, 700);
     expect(memcmp(&round.rack.decoders[1], &reply.decoder, sizeof d) == 0 &&
@@ -309,13 +323,14 @@ static void refuse(pescrondilu_f32 d)
     memcpy(left_before, left, sizeof left);
     memcpy(right_before, right, sizeof right);
 
-    pescrondilu_f32_reply reply =
+    pescrondilu_f32_counted reply =
         pescrondilu_f32_merged_block(d, table, PESCRONDILU_TABLE_LENGTH, mpx, BLOCK, pilot,
                                      BLOCK - 1, left, BLOCK, right, BLOCK);
     printf("pilot one short: code %u, expected %zu, got %zu\n", reply.answer.code,
            reply.answer.expected, reply.answer.got);
     expect(reply.answer.code == PESCRONDILU_REFUSED + 10, "the code is 110");
     expect(reply.answer.expected == BLOCK && reply.answer.got == BLOCK - 1, "it has the lengths");
+    expect(reply.wide == 0, "it carries no count");
 
     /* All fields of the record are 4 bytes long, so it has no padding that could differ. */
     int kept = memcmp(&reply.decoder, &d, sizeof d) == 0 &&
@@ -333,6 +348,30 @@ static void refuse(pescrondilu_f32 d)
 }
 
 /*
+ * A demodulator fails in the middle of a block, and the pilot is far outside -1 to 1 from there on.
+ * The block is carried out, and tells that the loop left its quick path.
+ */
+static void leave_quick_path(pescrondilu_f32 d)
+{
+    static float large[BLOCK], same[BLOCK], difference[BLOCK];
+    for (int i = 0; i < BLOCK; i++)
+        large[i] = i < BLOCK / 2 ? pilot[i] : 1e30f;
+
+    pescrondilu_f32_counted reply =
+        pescrondilu_f32_block(d, table, PESCRONDILU_TABLE_LENGTH, mpx, BLOCK, large, BLOCK, same,
+                              BLOCK, difference, BLOCK);
+    tell_wide("a large pilot", reply.wide);
+    expect(reply.answer.code == 0, "a large pilot is accepted");
+    expect(reply.wide == BLOCK / 2, "half of its corrections took the wide way");
+
+    reply = pescrondilu_f32_block(pescrondilu_f32_reset(reply.decoder), table,
+                                  PESCRONDILU_TABLE_LENGTH, mpx, BLOCK, pilot, BLOCK, same, BLOCK,
+                                  difference, BLOCK);
+    printf("after a reset: %zu\n", reply.wide);
+    expect(reply.wide == 0, "after a reset none does");
+}
+
+/*
  * A switch is on at anything but 0, and comes back as 0 or 1. Here sum and difference are taken, as
  * by a receiver that filters them before the matrix.
  */
@@ -341,11 +380,11 @@ static void use_switches(pescrondilu_f32 d)
     static float as_1[BLOCK], as_2[BLOCK], off[BLOCK], same[BLOCK];
 
     d.enabled = 1;
-    pescrondilu_f32_reply one =
+    pescrondilu_f32_counted one =
         pescrondilu_f32_block(d, table, PESCRONDILU_TABLE_LENGTH, mpx, BLOCK, pilot, BLOCK, same,
                               BLOCK, as_1, BLOCK);
     d.enabled = 2;
-    pescrondilu_f32_reply two =
+    pescrondilu_f32_counted two =
         pescrondilu_f32_block(d, table, PESCRONDILU_TABLE_LENGTH, mpx, BLOCK, pilot, BLOCK, same,
                               BLOCK, as_2, BLOCK);
     printf("a switch of 2: comes back as %u\n", two.decoder.enabled);
@@ -355,7 +394,7 @@ static void use_switches(pescrondilu_f32 d)
     expect(as_2[1] != 0, "with the switch on there is a difference");
 
     /* Disabled, the lamp stays on, since the loop goes on, and the difference is 0. */
-    pescrondilu_f32_reply no =
+    pescrondilu_f32_counted no =
         pescrondilu_f32_block(pescrondilu_f32_disable(d), table, PESCRONDILU_TABLE_LENGTH, mpx,
                               BLOCK, pilot, BLOCK, same, BLOCK, off, BLOCK);
     int silent = 1;
@@ -377,6 +416,7 @@ int main(void)
     share(d);
     share_slices(d);
     refuse(d);
+    leave_quick_path(d);
     use_switches(d);
     puts(wrong ? "not all is as expected" : "all is as expected");
     return wrong;

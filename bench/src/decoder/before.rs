@@ -1,9 +1,10 @@
 //! Our fast block beside that of an earlier library, which build.rs links. Both have to lay out
-//! their records alike.
+//! the decoder's record alike. The earlier block replies without a count, as blocks did before
+//! request 7; a later library needs its own reply here.
 
 use std::hint::black_box;
 
-use pescrondilu_sys::decoder::{self, Decoder, Reply, Way};
+use pescrondilu_sys::decoder::{self, Decoder, Reply};
 use sdrk_core::types::Q15;
 
 use super::{Pilot, Timed, decoders, inputs};
@@ -24,7 +25,7 @@ macro_rules! earlier {
                 sum_n: usize,
                 difference: *mut $sample,
                 difference_n: usize,
-            ) -> Reply<$value>;
+            ) -> Reply<$value, ()>;
         }
 
         impl Earlier for $format {
@@ -35,7 +36,7 @@ macro_rules! earlier {
                 pilot: &[$sample],
                 sum: &mut [$sample],
                 difference: &mut [$sample],
-            ) -> Reply<$value> {
+            ) -> Reply<$value, ()> {
                 // SAFETY: each pointer and length are those of one slice.
                 unsafe {
                     $name(
@@ -66,7 +67,7 @@ trait Earlier: Timed {
         pilot: &[Self::Raw],
         sum: &mut [Self::Raw],
         difference: &mut [Self::Raw],
-    ) -> Reply<Self::Value>;
+    ) -> Reply<Self::Value, ()>;
 }
 
 earlier!(f32, before_f32_block, f32, f32);
@@ -85,7 +86,7 @@ fn block<F: Earlier>(pilot: Pilot, n: usize) -> f64 {
         || {
             let (x, p) = (black_box(with.mpx.get()), black_box(with.pilot.get()));
             let (s, d) = (sum.get_mut(), difference.get_mut());
-            let reply = decoder::block(Way::Fast, now, table, x, p, s, d);
+            let reply = decoder::block(now, table, x, p, s, d);
             now = reply.decoder;
             assert_eq!(black_box(reply.answer), ACCEPTED);
         },

@@ -3,11 +3,11 @@
 
 use std::hint::black_box;
 
-use pescrondilu_sys::decoder::Way;
+use pescrondilu_sys::decoder::Count as _;
 use pescrondilu_sys::rack::{PLACES, Rack, RackWaiting, Waiting, rack_round, rack_round_slices};
 use sdrk_core::types::Q15;
 
-use super::{Pilot, Timed, decoders, inputs, same_outputs, same_state};
+use super::{Pilot, Timed, Way, decoders, inputs, same_outputs, same_state};
 use crate::{ACCEPTED, Staggered, ratio};
 
 /// Which of a format's two rounds.
@@ -68,6 +68,7 @@ fn round<F: Timed>(which: Which, n: usize) -> f64 {
             rack = round.rack;
             assert_eq!(black_box(round.answer), ACCEPTED);
             assert_eq!(round.taken, [n; PLACES]);
+            assert!(round.wide.iter().all(|wide| wide.number() == 0));
         },
         || {
             let (x, p) = (with.their_mpx.get(), with.their_pilot.get());

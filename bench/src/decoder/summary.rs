@@ -2,11 +2,11 @@
 
 use std::hint::black_box;
 
-use pescrondilu_sys::decoder::Way;
+use pescrondilu_sys::decoder::Count as _;
 use pescrondilu_sys::summary::{Summary, Summed, summary_block};
 use sdrk_core::types::Q15;
 
-use super::{F32, Pilot, Q15_PILOTS, Timed, decoders, inputs, same_outputs, same_state};
+use super::{F32, Pilot, Q15_PILOTS, Timed, Way, decoders, inputs, same_outputs, same_state};
 use crate::{ACCEPTED, RUNS, SAMPLES, Staggered, ratio};
 
 /// The pilots that are timed.
@@ -33,6 +33,7 @@ fn block<F: Timed>(pilot: Pilot, period: u32, n: usize) -> f64 {
     let counts = |place| Staggered::new(place, places, |_| 0u32);
     let (mut stereo, mut mono, mut changes) = (counts(7), counts(8), counts(9));
     let mut magnitude = Staggered::new(10, places, |i| F::mpx(i).raw());
+    let mut wide = 0;
     let answer = ratio(
         n,
         || {
@@ -47,6 +48,7 @@ fn block<F: Timed>(pilot: Pilot, period: u32, n: usize) -> f64 {
             );
             let reply = summary_block(ours, summary, table, x, p, s, d, a, b, c, e);
             (ours, summary) = (reply.decoder, reply.summary);
+            wide += reply.wide.number();
             assert_eq!(black_box(reply.answer), ACCEPTED);
         },
         || {
@@ -56,6 +58,7 @@ fn block<F: Timed>(pilot: Pilot, period: u32, n: usize) -> f64 {
             assert!(black_box(done).is_ok());
         },
     );
+    assert_eq!(wide, 0, "the quick path is timed");
     same_state(&ours, &state);
     same_outputs::<F>(sum.get(), difference.get(), output.get());
     let samples = RUNS * (SAMPLES / n) * n;

@@ -4,6 +4,8 @@ use answers::answer::Code;
 use answers::answer::code_of;
 use answers::switch::is_on;
 use answers::switch::switch_of;
+use counted::answer_of;
+use counted::wide_of;
 use decoder_record::pll_f32::NewF32;
 use decoder_record::pll_f32::StereoPllF32;
 ghost use mathlib.Core.Path.{_≡_};
@@ -14,6 +16,8 @@ ghost use Rattle.decoder_record.specs.Fresh.{newF32Of};
 ghost use Rattle.decoder_record.specs.Records.{pllF32};
 ghost use Rattle.decoder.specs.Machine.{blockOf};
 ghost use Rattle.decoder.specs.F32.{f32};
+ghost use Rattle.counted.specs.Counted.{numberIn};
+ghost use Rattle.decoder_fast.specs.Wide.{countF32};
 ghost use Rattle.pilot_scan.specs.Scan.{scanOf};
 ghost use Rattle.c_decoder.specs.Coded.{decoderF32, takenOf, givenOf, codedDecoder, codedBlock, readF32, codedScan};
 
@@ -45,6 +49,15 @@ pub struct CodedF32 {
 #[repr(C)]
 pub struct ReplyF32 {
     pub answer: Code,
+    pub decoder: DecoderF32,
+}
+
+// What a fast block answers, how many of its corrections took the wide way, 0 where it was turned back,
+// and the decoder after it.
+#[repr(C)]
+pub struct CountedF32 {
+    pub answer: Code,
+    pub wide: usize,
     pub decoder: DecoderF32,
 }
 
@@ -161,7 +174,7 @@ pub extern "C" fn pescrondilu_f32_block(
     pilot: &[f32],
     sum: &mut [f32],
     difference: &mut [f32],
-) -> ReplyF32
+) -> CountedF32
     ensures { λ r. ⌜ record {
       answer = r .answer;
       sum = now (sum .exit);
@@ -169,13 +182,16 @@ pub extern "C" fn pescrondilu_f32_block(
       decoder = decoderF32 (r .decoder);
     }
         ≡ codedBlock (blockOf f32 (takenOf (decoderF32 d))
+        (now (table .entry)) (now (mpx .entry)) (now (pilot .entry)) (now (sum .entry)) (now (difference .entry))) ⌝
+        ∗ ⌜ r .wide ≡ numberIn (countF32 (takenOf (decoderF32 d))
         (now (table .entry)) (now (mpx .entry)) (now (pilot .entry)) (now (sum .entry)) (now (difference .entry))) ⌝ }
 {
-    let reply = decoder::fast::block(taken(d), table, mpx, pilot, sum, difference);
+    let reply = decoder_fast::block(taken(d), table, mpx, pilot, sum, difference);
     let said = reply.answer;
     let next = reply.decoder;
-    ReplyF32 {
-        answer: code_of(said),
+    CountedF32 {
+        answer: code_of(answer_of(said)),
+        wide: wide_of(said),
         decoder: given(next),
     }
 }

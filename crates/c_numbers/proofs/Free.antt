@@ -28,6 +28,7 @@ use Rattle.c_numbers.proofs.pescrondilu_cos_q15.Reads as cos-q15
 use Rattle.c_numbers.proofs.pescrondilu_interp_q15.Reads as interp-q15
 use Rattle.c_numbers.proofs.pescrondilu_correction_plain.Reads as correction-plain
 use Rattle.c_numbers.proofs.pescrondilu_correction_fast.Reads as correction-fast
+use Rattle.c_numbers.proofs.pescrondilu_quick_serves.Reads as quick-serves
 
 pub number-free :
     (sat16.Asked ≡ λ κs a. Unit {0})
@@ -60,4 +61,5 @@ pub phase-free :
     × (interp-q15.Asked ≡ λ κs a. Unit {0})
     × (correction-plain.Asked ≡ λ κs a. Unit {0})
     × (correction-fast.Asked ≡ λ κs a. Unit {0})
-phase-free = (refl, refl, refl, refl, refl, refl)
+    × (quick-serves.Asked ≡ λ κs a. Unit {0})
+phase-free = (refl, refl, refl, refl, refl, refl, refl)

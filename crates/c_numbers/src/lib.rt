@@ -2,6 +2,7 @@
 // with the Rust by themselves. Each function has the contract of the one that it calls. A slice is a
 // pointer and then a length.
 use numbers::scale::Q14;
+use phase::correction::Corrected;
 use phase::lookup::Pair;
 ghost use mathlib.Core.Path.{_≡_};
 ghost use Prim.Native.Nat.{_^_};
@@ -15,7 +16,7 @@ ghost use Rattle.floats.specs.Floats.{floorOf, halfEvenOf, toFormat};
 ghost use Rattle.numbers.specs.Flush.{flushOf};
 ghost use Rattle.numbers.specs.Scaled.{scaledOf, q15FromOf, q14FromOf};
 ghost use Rattle.phase.specs.Lookup.{cosF32, pairF32, cosQ15};
-ghost use Rattle.phase.specs.Correction.{correctionOf};
+ghost use Rattle.phase.specs.Correction.{correctionOf, quickServes, correctedOf};
 ghost use Rattle.answers.specs.Coded.{codedNew};
 
 // 0 and the value, or 100 and the cause's number, and 0.
@@ -214,8 +215,15 @@ pub extern "C" fn pescrondilu_correction_plain(f: f32) -> u32
 }
 
 #[no_mangle]
-pub extern "C" fn pescrondilu_correction_fast(f: f32) -> u32
-    ensures { λ r. ⌜ r ≡ correctionOf f ⌝ }
+pub extern "C" fn pescrondilu_correction_fast(f: f32) -> Corrected
+    ensures { λ r. ⌜ r ≡ correctedOf f ⌝ }
 {
     phase::correction::correction_fast(f)
+}
+
+#[no_mangle]
+pub extern "C" fn pescrondilu_quick_serves(v: f64) -> bool
+    ensures { λ r. ⌜ r ≡ quickServes v ⌝ }
+{
+    phase::correction::quick_serves(v)
 }

@@ -10,7 +10,8 @@ ghost use mathlib.Core.Path.{_≡_};
 ghost use mathlib.Core.List.{map};
 ghost use Rattle.decoder_record.specs.Records.{pllF32};
 ghost use Rattle.decoder.specs.F32.{f32};
-ghost use Rattle.rack.specs.Flat.{flatOf};
+ghost use Rattle.rack.specs.Flat.{queuesOf, flatOf};
+ghost use Rattle.rack.specs.Wide.{roundWide};
 ghost use Rattle.c_decoder.specs.Coded.{decoderF32, takenOf, givenOf};
 ghost use Rattle.c_rack.specs.Coded.{codedRound};
 
@@ -21,11 +22,13 @@ pub struct RackF32 {
     pub number: usize,
 }
 
-// What a round answers, how many samples each decoder took, and the rack after it.
+// What a round answers, how many samples each decoder took, how many of its corrections took the wide
+// way, and the rack after it.
 #[repr(C)]
 pub struct RoundF32 {
     pub answer: Code,
     pub taken: [usize; 8],
+    pub wide: [usize; 8],
     pub rack: RackF32,
 }
 
@@ -85,6 +88,13 @@ pub extern "C" fn pescrondilu_f32_rack_round(
           pilot = now (pilot .entry);
           sum = now (sum .entry);
           difference = now (difference .entry);
+        })) ⌝
+        ∗ ⌜ r .wide ≡ roundWide (rack .number) allowance (now (table .entry))
+        (map takenOf (map decoderF32 (rack .decoders))) (queuesOf (waiting .decoders) (record {
+          mpx = now (mpx .entry);
+          pilot = now (pilot .entry);
+          sum = now (sum .entry);
+          difference = now (difference .entry);
         })) ⌝ }
 {
     let decoders = rack.decoders;
@@ -103,10 +113,12 @@ pub extern "C" fn pescrondilu_f32_rack_round(
     );
     let said = reply.answer;
     let counts = reply.taken;
+    let wide = reply.wide;
     let next = reply.decoders;
     RoundF32 {
         answer: code_of(said),
         taken: counts,
+        wide,
         rack: RackF32 {
             decoders: all_given(next),
             number,

@@ -7,7 +7,8 @@ use c_rack::in_f32::all_taken;
 ghost use mathlib.Core.Path.{_≡_};
 ghost use mathlib.Core.List.{map};
 ghost use Rattle.decoder.specs.F32.{f32};
-ghost use Rattle.rack_slices.specs.Slices.{addressesOf, slicesOf};
+ghost use Rattle.rack.specs.Wide.{roundWide};
+ghost use Rattle.rack_slices.specs.Slices.{addressesOf, queuesAt, slicesOf};
 ghost use Rattle.c_decoder.specs.Coded.{decoderF32, takenOf};
 ghost use Rattle.c_rack_slices.specs.Coded.{codedSlices};
 
@@ -38,7 +39,14 @@ pub extern "C" fn pescrondilu_f32_rack_round_slices(
           difference = map now (now (difference .entry));
         })))
         × (addressesOf (now (sum .exit)) ≡ addressesOf (now (sum .entry)))
-        × (addressesOf (now (difference .exit)) ≡ addressesOf (now (difference .entry))) ⌝ }
+        × (addressesOf (now (difference .exit)) ≡ addressesOf (now (difference .entry))) ⌝
+        ∗ ⌜ r .wide ≡ roundWide (rack .number) allowance (now (table .entry))
+        (map takenOf (map decoderF32 (rack .decoders))) (queuesAt (record {
+          mpx = map now (now (mpx .entry));
+          pilot = map now (now (pilot .entry));
+          sum = map now (now (sum .entry));
+          difference = map now (now (difference .entry));
+        })) ⌝ }
 {
     let decoders = rack.decoders;
     let number = rack.number;
@@ -54,10 +62,12 @@ pub extern "C" fn pescrondilu_f32_rack_round_slices(
     );
     let said = reply.answer;
     let counts = reply.taken;
+    let wide = reply.wide;
     let next = reply.decoders;
     RoundF32 {
         answer: code_of(said),
         taken: counts,
+        wide,
         rack: RackF32 {
             decoders: all_given(next),
             number,

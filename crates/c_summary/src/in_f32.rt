@@ -4,11 +4,15 @@ use answers::answer::code_of;
 use answers::switch::is_on;
 use answers::switch::switch_of;
 use c_decoder::in_f32::DecoderF32;
+use counted::answer_of;
+use counted::wide_of;
 use summary_counts::Counts;
 use summary_record::in_f32::SummaryF32;
 ghost use mathlib.Core.Path.{_≡_};
 ghost use Rattle.decoder.specs.F32.{f32};
+ghost use Rattle.counted.specs.Counted.{numberIn};
 ghost use Rattle.summary.specs.Summary.{summaryOf};
+ghost use Rattle.summary.specs.Wide.{summaryCount};
 ghost use Rattle.summary_record.specs.Record.{freshSummary};
 ghost use Rattle.summary_record.specs.F32.{unsignedF32, summaryF32};
 ghost use Rattle.c_decoder.specs.Coded.{decoderF32, takenOf};
@@ -25,10 +29,12 @@ pub struct SummaryRecordF32 {
     pub before: u32,
 }
 
-// What a block answers, and the decoder and the summary after it.
+// What a block answers, how many of its corrections took the wide way, 0 where it was turned back, and
+// the decoder and the summary after it.
 #[repr(C)]
 pub struct SummaryReplyF32 {
     pub answer: Code,
+    pub wide: usize,
     pub decoder: DecoderF32,
     pub summary: SummaryRecordF32,
 }
@@ -106,6 +112,14 @@ pub extern "C" fn pescrondilu_f32_summary_block(
           mono = now (mono .entry);
           changes = now (changes .entry);
           magnitude = now (magnitude .entry);
+        })) ⌝
+        ∗ ⌜ r .wide ≡ numberIn (summaryCount (takenOf (decoderF32 d)) (takenSummary (recordF32 s))
+        (now (table .entry)) (now (mpx .entry)) (now (pilot .entry)) (now (sum .entry)) (now (difference .entry))
+        (record {
+          stereo = now (stereo .entry);
+          mono = now (mono .entry);
+          changes = now (changes .entry);
+          magnitude = now (magnitude .entry);
         })) ⌝ }
 {
     let decoder = c_decoder::in_f32::taken(d);
@@ -127,7 +141,8 @@ pub extern "C" fn pescrondilu_f32_summary_block(
     let next = reply.decoder;
     let held = reply.summary;
     SummaryReplyF32 {
-        answer: code_of(said),
+        answer: code_of(answer_of(said)),
+        wide: wide_of(said),
         decoder: c_decoder::in_f32::given(next),
         summary: given(held),
     }

@@ -17,12 +17,12 @@ use Rattle.summary.specs.Summary.{Columns, columnsOf, Outcome, Running, Summari
 use Rattle.summary_record.proofs.Fits.{Unsigned}
 use Rattle.calls.specs.Events.{Event, after}
 use Rattle.calls.specs.Calls.{Core, Brought, Call, block, merged, summary, enable, disable, reset, Left, leaving, leavingSummary, done, callOf, machine, final, events}
-use Rattle.calls.specs.Demand.{lent, Arguments, BlockLearnt, SummaryLearnt, Decoder, Format, Constructed, seen, Leaves, MatrixOf, LeavesSummary, SummaryBy, plainDecoder, fastDecoder, OwnMatrix, OwnSummary, May, Runs, lastRecord, After, Demand}
+use Rattle.calls.specs.Demand.{lent, Arguments, Answered, BlockLearnt, SummaryLearnt, Decoder, Format, Constructed, seen, Leaves, MatrixOf, LeavesSummary, SummaryBy, plainDecoder, fastDecoder, OwnMatrix, OwnSummary, May, Runs, lastRecord, After, Demand}
 use Rattle.calls.proofs.Events.{final-after}
 use Rattle.calls.proofs.History.{stereo-locked, locked-stereo}
 use Rattle.calls.proofs.Steps.{saysOf, ownBlock, block-said, block-ran, summary-ran, blockedIn, shown-steps}
 
-module _ {A D R N S T : Type 0} (K : Format A D R N S T) where
+module _ {A D R Q N S T : Type 0} (K : Format A D R Q N S T) where
   abbrev C : Core A
   C = K .core
 
@@ -30,13 +30,13 @@ module _ {A D R N S T : Type 0} (K : Format A D R N S T) where
   F = C .arithmetic
 
   -- what a caller of a block learns is the machine's block, and of a merged one the machine's merged block
-  abbrev pub BlockRight : BlockLearnt A D R → Type 0
-  BlockRight B = (κs : Lfts 5) (d : D) (t x p y z : RefT (List A)) (r : R) (y' z' : RefT (List A)) → B κs d t x p y z r y' z'
-      → record { said = K .said r; sum = y' .now; difference = z' .now; pll = K .state (K .decoder r) } ≡ blockOf F (K .state d) (t .now) (x .now) (p .now) (y .now) (z .now)
+  abbrev pub BlockRight : {X : Type 0} → (X → Answered D) → BlockLearnt A D X → Type 0
+  BlockRight {X} parts B = (κs : Lfts 5) (d : D) (t x p y z : RefT (List A)) (r : X) (y' z' : RefT (List A)) → B κs d t x p y z r y' z'
+      → record { said = parts r .said; sum = y' .now; difference = z' .now; pll = K .state (parts r .decoder) } ≡ blockOf F (K .state d) (t .now) (x .now) (p .now) (y .now) (z .now)
 
-  abbrev pub MergedRight : BlockLearnt A D R → Type 0
-  MergedRight B = (κs : Lfts 5) (d : D) (t x p y z : RefT (List A)) (r : R) (y' z' : RefT (List A)) → B κs d t x p y z r y' z'
-      → record { said = K .said r; left = y' .now; right = z' .now; pll = K .state (K .decoder r) } ≡ mergedOf F (C .matrix) (K .state d) (t .now) (x .now) (p .now) (y .now) (z .now)
+  abbrev pub MergedRight : {X : Type 0} → (X → Answered D) → BlockLearnt A D X → Type 0
+  MergedRight {X} parts B = (κs : Lfts 5) (d : D) (t x p y z : RefT (List A)) (r : X) (y' z' : RefT (List A)) → B κs d t x p y z r y' z'
+      → record { said = parts r .said; left = y' .now; right = z' .now; pll = K .state (parts r .decoder) } ≡ mergedOf F (C .matrix) (K .state d) (t .now) (x .now) (p .now) (y .now) (z .now)
 
   abbrev pub SummaryRight : SummaryLearnt A D S T → Type 0
   SummaryRight B = (κs : Lfts 9) (d : D) (s : S) (t x p y z : RefT (List A)) (e f g : RefT (List ℕ)) (m : RefT (List A))
@@ -73,13 +73,13 @@ module _ {A D R N S T : Type 0} (K : Format A D R N S T) where
   abbrev pub ofSummary : Summarized A → Left A (Pll A)
   ofSummary r = leavingSummary (r .said) (r .sum) (r .difference) (r .columns) (r .summary) (r .pll)
 
-  pub block-leaves : (B : BlockLearnt A D R) → BlockRight B → (d : D) (b : Brought A) (l : Left A D) → Leaves K B d b l → seen K l ≡ callOf C (K .state d) (block b)
-  block-leaves B right d b l h =
+  pub block-leaves : {X : Type 0} (parts : X → Answered D) (B : BlockLearnt A D X) → BlockRight parts B → (d : D) (b : Brought A) (l : Left A D) → Leaves K parts B d b l → seen K l ≡ callOf C (K .state d) (block b)
+  block-leaves parts B right d b l h =
       let w = h .1 in
       ap (seen K) (h .6) ∙ ap ofBlock (right (h .0) d (lent (w .0) (b .table)) (lent (w .1) (b .mpx)) (lent (w .2) (b .pilot)) (lent (w .3) (b .first)) (lent (w .4) (b .second)) (h .2) (lent (w .3) (h .3)) (lent (w .4) (h .4)) (h .5))
 
-  merged-leaves : (B : BlockLearnt A D R) → MergedRight B → (d : D) (b : Brought A) (l : Left A D) → Leaves K B d b l → seen K l ≡ callOf C (K .state d) (merged b)
-  merged-leaves B right d b l h =
+  merged-leaves : {X : Type 0} (parts : X → Answered D) (B : BlockLearnt A D X) → MergedRight parts B → (d : D) (b : Brought A) (l : Left A D) → Leaves K parts B d b l → seen K l ≡ callOf C (K .state d) (merged b)
+  merged-leaves parts B right d b l h =
       let w = h .1 in
       ap (seen K) (h .6) ∙ ap ofMerged (right (h .0) d (lent (w .0) (b .table)) (lent (w .1) (b .mpx)) (lent (w .2) (b .pilot)) (lent (w .3) (b .first)) (lent (w .4) (b .second)) (h .2) (lent (w .3) (h .3)) (lent (w .4) (h .4)) (h .5))
 
@@ -152,7 +152,7 @@ module _ {A D R N S T : Type 0} (K : Format A D R N S T) where
   own-summary d s b c l h = h
 
   module _ (W : Decoder A D) (right : BlocksRight W) (sets : SetsRight) where
-    one : (d : D) (c : Call A) (l : Left A D) → May K W d c l → seen K l ≡ callOf C (K .state d) c
+    pub one : (d : D) (c : Call A) (l : Left A D) → May K W d c l → seen K l ≡ callOf C (K .state d) c
     one d (block b) l h = right .as-block d b l h
     one d (merged b) l h = right .as-merged d b l h
     one d (summary s b c) l h = right .as-summary d s b c l h
@@ -177,9 +177,9 @@ module _ {A D R N S T : Type 0} (K : Format A D R N S T) where
 
   -- ---- demand 3, from what a format shows
   pub record Shown : Type 0 where
-    pub plain-right : BlockRight (K .plain)
-    pub fast-right : BlockRight (K .fast)
-    pub merged-right : MergedRight (K .merged)
+    pub plain-right : BlockRight (K .plainReply) (K .plain)
+    pub fast-right : BlockRight (K .fastReply) (K .fast)
+    pub merged-right : MergedRight (K .fastReply) (K .merged)
     pub summary-right : SummaryRight (K .summary)
     pub unsigned-shown : Unsigned F (C .unsigned)
     pub sets-right : SetsRight
@@ -193,22 +193,22 @@ module _ {A D R N S T : Type 0} (K : Format A D R N S T) where
   module _ (s : Shown) where
     pub plain-blocks : BlocksRight (plainDecoder K)
     plain-blocks =
-        let own = block-leaves (K .plain) (s .plain-right) in
+        let own = block-leaves (K .plainReply) (K .plain) (s .plain-right) in
         record {
           as-block = own;
-          as-merged = λ d b l h. matrix-leaves (Leaves K (K .plain)) own d b l (own-matrix d b l h);
-          as-summary = λ d s b c l h. shown-leaves (Leaves K (K .plain)) own d s b c l (own-summary d s b c l h);
+          as-merged = λ d b l h. matrix-leaves (Leaves K (K .plainReply) (K .plain)) own d b l (own-matrix d b l h);
+          as-summary = λ d s b c l h. shown-leaves (Leaves K (K .plainReply) (K .plain)) own d s b c l (own-summary d s b c l h);
         }
 
     pub fast-blocks : BlocksRight (fastDecoder K)
     fast-blocks = record {
-      as-block = block-leaves (K .fast) (s .fast-right);
-      as-merged = merged-leaves (K .merged) (s .merged-right);
+      as-block = block-leaves (K .fastReply) (K .fast) (s .fast-right);
+      as-merged = merged-leaves (K .fastReply) (K .merged) (s .merged-right);
       as-summary = summary-leaves (K .summary) (s .summary-right);
     }
 
     -- a constructed decoder is the machine's fresh state
-    start : (a : Arguments) (d : D) → Constructed K a d → K .newOf a ≡ made (K .state d)
+    pub start : (a : Arguments) (d : D) → Constructed K a d → K .newOf a ≡ made (K .state d)
     start a d c = sym (s .make-right a (c .0) (c .1)) ∙ ap (mapBuilt (K .state)) (c .2)
 
     rules : (a : Arguments) (m : Pll A) → K .newOf a ≡ made m → (cs : List (Call A)) → After K m cs

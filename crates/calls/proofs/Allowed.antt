@@ -18,7 +18,7 @@ use Rattle.summary_counts.specs.Counts.{placesOf}
 use Rattle.summary_record.specs.Record.{Summary, summaryFit}
 use Rattle.summary.specs.Summary.{Columns, Summarized, summarySays}
 use Rattle.calls.specs.Calls.{Core, Brought, Call, block, merged, summary, enable, disable, reset, Left, leaving, done}
-use Rattle.calls.specs.Demand.{Place, lent, BlockLearnt, SummaryLearnt, Decoder, Format, Leaves, MatrixOf, LeavesSummary, SummaryBy, firstOf, plainDecoder, fastDecoder, May, Runs}
+use Rattle.calls.specs.Demand.{Place, lent, Answered, BlockLearnt, SummaryLearnt, Decoder, Format, Leaves, MatrixOf, LeavesSummary, SummaryBy, firstOf, plainDecoder, fastDecoder, May, Runs}
 use Rattle.calls.proofs.Steps.{saysOf, ownBlock, block-said, ownSummary, summary-said, outcomesIn, steps-shown}
 use Rattle.calls.proofs.Agreement.{BlockRight, block-leaves}
 
@@ -72,102 +72,103 @@ more-lifetimes = ([], ([], ([], ([], lifetimes))))
 abbrev place : Place
 place = ((0, 0), 0)
 
-module _ {A D R N S T : Type 0} (K : Format A D R N S T) where
+module _ {A D R Q N S T : Type 0} (K : Format A D R Q N S T) where
   abbrev C : Core A
   C = K .core
 
   abbrev F : Arithmetic A
   F = C .arithmetic
 
-  merged-said : (d : Pll A) (b : Brought A) → mergedOf F (C .matrix) d (b .table) (b .mpx) (b .pilot) (b .first) (b .second) .said ≡ saysOf F d b
+  pub merged-said : (d : Pll A) (b : Brought A) → mergedOf F (C .matrix) d (b .table) (b .mpx) (b .pilot) (b .first) (b .second) .said ≡ saysOf F d b
   unfolding mergedOf
   merged-said d b = block-said F d b
 
   -- a record for each of the machine's states and summaries, and a reply for each answer, which the contracts
-  -- allow
+  -- allow; a reply may depend on the record and on what was brought
   pub record Allows : Type 0 where
     pub make : Pll A → D
     pub makeSummary : Summary A → S
     pub as-made : (s : Summary A) → K .summaryState (makeSummary s) ≡ s
-    pub reply : Answer → D → R
-    pub replySummary : Answer → D → S → T
+    pub replyPlain : D → Brought A → Answer → D → R
+    pub replyFast : D → Brought A → Answer → D → Q
+    pub replySummary : D → Brought A → Answer → D → S → T
     pub enables : (d : D) → K .enable d (make (enabledOf true (K .state d)))
     pub disables : (d : D) → K .disable d (make (enabledOf false (K .state d)))
     pub resets : (d : D) → K .reset d (make (resetOf (F .nought) (K .state d)))
 
   module _ (w : Allows) where
-    -- a block's contract allows the machine's block, and so of the other two sorts
-    abbrev pub AllowsBlock : BlockLearnt A D R → Type 0
-    AllowsBlock B = (d : D) (b : Brought A) (a : Answer) → let r = ownBlock F (K .state d) b in
-        _≡_ {A = Blocked A} (record { said = says a; sum = r .sum; difference = r .difference; pll = r .pll }) r
-        → B lifetimes d (lent place (b .table)) (lent place (b .mpx)) (lent place (b .pilot)) (lent place (b .first)) (lent place (b .second)) (w .reply a (w .make (r .pll))) (lent place (r .sum)) (lent place (r .difference))
+    own-sayable : (d : D) (b : Brought A) → Sayable (saysOf F (K .state d) b)
+    own-sayable d b = block-sayable F (K .state d) (length (b .table)) (length (b .mpx)) (length (b .pilot)) (length (b .first)) (length (b .second))
 
-    abbrev pub AllowsMerged : BlockLearnt A D R → Type 0
-    AllowsMerged B = (d : D) (b : Brought A) (a : Answer) → let r = mergedOf F (C .matrix) (K .state d) (b .table) (b .mpx) (b .pilot) (b .first) (b .second) in
-        _≡_ {A = Merged A} (record { said = says a; left = r .left; right = r .right; pll = r .pll }) r
-        → B lifetimes d (lent place (b .table)) (lent place (b .mpx)) (lent place (b .pilot)) (lent place (b .first)) (lent place (b .second)) (w .reply a (w .make (r .pll))) (lent place (r .left)) (lent place (r .right))
+    module _ {X : Type 0} (parts : X → Answered D) (reply : D → Brought A → Answer → D → X) where
+      -- a block's contract allows the machine's block, and so of the other two sorts
+      abbrev pub AllowsBlock : BlockLearnt A D X → Type 0
+      AllowsBlock B = (d : D) (b : Brought A) (a : Answer) → let r = ownBlock F (K .state d) b in
+          _≡_ {A = Blocked A} (record { said = says a; sum = r .sum; difference = r .difference; pll = r .pll }) r
+          → B lifetimes d (lent place (b .table)) (lent place (b .mpx)) (lent place (b .pilot)) (lent place (b .first)) (lent place (b .second)) (reply d b a (w .make (r .pll))) (lent place (r .sum)) (lent place (r .difference))
+
+      abbrev pub AllowsMerged : BlockLearnt A D X → Type 0
+      AllowsMerged B = (d : D) (b : Brought A) (a : Answer) → let r = mergedOf F (C .matrix) (K .state d) (b .table) (b .mpx) (b .pilot) (b .first) (b .second) in
+          _≡_ {A = Merged A} (record { said = says a; left = r .left; right = r .right; pll = r .pll }) r
+          → B lifetimes d (lent place (b .table)) (lent place (b .mpx)) (lent place (b .pilot)) (lent place (b .first)) (lent place (b .second)) (reply d b a (w .make (r .pll))) (lent place (r .left)) (lent place (r .right))
+
+      -- a reply to a block, and what it then leaves
+      abbrev replyTo : D → Brought A → Answered D
+      replyTo d b = parts (reply d b (own-sayable d b .0) (w .make (ownBlock F (K .state d) b .pll)))
+
+      abbrev leftBy : D → Brought A → Left A D
+      leftBy d b = let r = ownBlock F (K .state d) b in leaving (replyTo d b .said) (r .sum) (r .difference) (replyTo d b .decoder)
+
+      module _ (B : BlockLearnt A D X) (allows : AllowsBlock B) where
+        some-block : (d : D) (b : Brought A) → Leaves K parts B d b (leftBy d b)
+        some-block d b =
+            let r = ownBlock F (K .state d) b in
+            let a = own-sayable d b in
+            (lifetimes, (place, place, place, place, place), reply d b (a .0) (w .make (r .pll)), r .sum, r .difference, allows d b (a .0) (rw (a .1 ∙ sym (block-said F (K .state d) b))), refl)
+
+        -- the matrix of what a block leaves
+        some-matrix : (d : D) (b : Brought A) → (l : Left A D) × MatrixOf K (Leaves K parts B) d b l
+        some-matrix d b =
+            let r = ownBlock F (K .state d) b in
+            (_, (replyTo d b .said, r .sum, r .difference, replyTo d b .decoder, some-block d b, refl))
+
+        -- the summaries of what a block shows
+        some-shown : BlockRight K parts B → (d : D) (s : Summary A) (b : Brought A) (c : Columns A) → (l : Left A D) × SummaryBy K (Leaves K parts B) d s b c l
+        some-shown right d s b c =
+            let r = ownBlock F (K .state d) b in
+            let own = block-leaves K parts B right in
+            let said : replyTo d b .said ≡ saysOf F (K .state d) b = ap (λ (l : Left A (Pll A)). l .said) (own d b (leftBy d b) (some-block d b)) ∙ block-said F (K .state d) b in (
+              _,
+              (
+                replyTo d b .said,
+                r .sum,
+                r .difference,
+                replyTo d b .decoder,
+                outcomesIn F (K .state d) b,
+                some-block d b,
+                (λ h.
+                    steps-shown K (Leaves K parts B) own d b (sym said ∙ none-yet (replyTo d b .said) h)
+                    (λ k. let q = ownBlock F (K .state d) (firstOf k b) in (replyTo d (firstOf k b) .said, q .sum, q .difference, replyTo d (firstOf k b) .decoder, some-block d (firstOf k b)))),
+                refl,
+              ),
+            )
+
+      some-merged : (B : BlockLearnt A D X) → AllowsMerged B → (d : D) (b : Brought A) → (l : Left A D) × Leaves K parts B d b l
+      some-merged B allows d b =
+          let r = mergedOf F (C .matrix) (K .state d) (b .table) (b .mpx) (b .pilot) (b .first) (b .second) in
+          let a = own-sayable d b in
+          (_, (lifetimes, (place, place, place, place, place), reply d b (a .0) (w .make (r .pll)), r .left, r .right, allows d b (a .0) (rw (a .1 ∙ sym (merged-said (K .state d) b))), refl))
 
     abbrev pub AllowsSummary : SummaryLearnt A D S T → Type 0
     AllowsSummary B = (d : D) (s : Summary A) (b : Brought A) (c : Columns A) (a : Answer) → let r = ownSummary F (C .unsigned) (K .state d) s b c in let e = r .columns in
         _≡_ {A = Summarized A} (record { said = says a; sum = r .sum; difference = r .difference; columns = e; pll = r .pll; summary = r .summary }) r
-        → B more-lifetimes d (w .makeSummary s) (lent place (b .table)) (lent place (b .mpx)) (lent place (b .pilot)) (lent place (b .first)) (lent place (b .second)) (lent place (c .stereo)) (lent place (c .mono)) (lent place (c .changes)) (lent place (c .magnitude)) (w .replySummary a (w .make (r .pll)) (w .makeSummary (r .summary))) (lent place (r .sum)) (lent place (r .difference)) (lent place (e .stereo)) (lent place (e .mono)) (lent place (e .changes)) (lent place (e .magnitude))
-
-    own-sayable : (d : D) (b : Brought A) → Sayable (saysOf F (K .state d) b)
-    own-sayable d b = block-sayable F (K .state d) (length (b .table)) (length (b .mpx)) (length (b .pilot)) (length (b .first)) (length (b .second))
-
-    -- a reply to a block, and what it then leaves
-    abbrev replyTo : D → Brought A → R
-    replyTo d b = w .reply (own-sayable d b .0) (w .make (ownBlock F (K .state d) b .pll))
-
-    abbrev leftBy : D → Brought A → Left A D
-    leftBy d b = let r = ownBlock F (K .state d) b in leaving (K .said (replyTo d b)) (r .sum) (r .difference) (K .decoder (replyTo d b))
-
-    module _ (B : BlockLearnt A D R) (allows : AllowsBlock B) where
-      some-block : (d : D) (b : Brought A) → Leaves K B d b (leftBy d b)
-      some-block d b =
-          let r = ownBlock F (K .state d) b in
-          let a = own-sayable d b in
-          (lifetimes, (place, place, place, place, place), replyTo d b, r .sum, r .difference, allows d b (a .0) (rw (a .1 ∙ sym (block-said F (K .state d) b))), refl)
-
-      -- the matrix of what a block leaves
-      some-matrix : (d : D) (b : Brought A) → (l : Left A D) × MatrixOf K (Leaves K B) d b l
-      some-matrix d b =
-          let r = ownBlock F (K .state d) b in
-          (_, (K .said (replyTo d b), r .sum, r .difference, K .decoder (replyTo d b), some-block d b, refl))
-
-      -- the summaries of what a block shows
-      some-shown : BlockRight K B → (d : D) (s : Summary A) (b : Brought A) (c : Columns A) → (l : Left A D) × SummaryBy K (Leaves K B) d s b c l
-      some-shown right d s b c =
-          let r = ownBlock F (K .state d) b in
-          let own = block-leaves K B right in
-          let said : K .said (replyTo d b) ≡ saysOf F (K .state d) b = ap (λ (l : Left A (Pll A)). l .said) (own d b (leftBy d b) (some-block d b)) ∙ block-said F (K .state d) b in (
-            _,
-            (
-              K .said (replyTo d b),
-              r .sum,
-              r .difference,
-              K .decoder (replyTo d b),
-              outcomesIn F (K .state d) b,
-              some-block d b,
-              (λ h.
-                  steps-shown K (Leaves K B) own d b (sym said ∙ none-yet (K .said (replyTo d b)) h)
-                  (λ k. let q = ownBlock F (K .state d) (firstOf k b) in (K .said (replyTo d (firstOf k b)), q .sum, q .difference, K .decoder (replyTo d (firstOf k b)), some-block d (firstOf k b)))),
-              refl,
-            ),
-          )
-
-    some-merged : (B : BlockLearnt A D R) → AllowsMerged B → (d : D) (b : Brought A) → (l : Left A D) × Leaves K B d b l
-    some-merged B allows d b =
-        let r = mergedOf F (C .matrix) (K .state d) (b .table) (b .mpx) (b .pilot) (b .first) (b .second) in
-        let a = own-sayable d b in
-        let y = w .reply (a .0) (w .make (r .pll)) in
-        (_, (lifetimes, (place, place, place, place, place), y, r .left, r .right, allows d b (a .0) (rw (a .1 ∙ sym (merged-said (K .state d) b))), refl))
+        → B more-lifetimes d (w .makeSummary s) (lent place (b .table)) (lent place (b .mpx)) (lent place (b .pilot)) (lent place (b .first)) (lent place (b .second)) (lent place (c .stereo)) (lent place (c .mono)) (lent place (c .changes)) (lent place (c .magnitude)) (w .replySummary d b a (w .make (r .pll)) (w .makeSummary (r .summary))) (lent place (r .sum)) (lent place (r .difference)) (lent place (e .stereo)) (lent place (e .mono)) (lent place (e .changes)) (lent place (e .magnitude))
 
     some-summary : (B : SummaryLearnt A D S T) → AllowsSummary B → (d : D) (s : Summary A) (b : Brought A) (c : Columns A) → (l : Left A D) × LeavesSummary K B d s b c l
     some-summary B allows d s b c =
         let r = ownSummary F (C .unsigned) (K .state d) s b c in
         let a = summary-sayable F (C .unsigned) s (saysOf F (K .state d) b) (length (b .mpx)) c (own-sayable d b) in
-        let y = w .replySummary (a .0) (w .make (r .pll)) (w .makeSummary (r .summary)) in
+        let y = w .replySummary d b (a .0) (w .make (r .pll)) (w .makeSummary (r .summary)) in
         (_, (more-lifetimes, (place, place, place, place, place, place, place, place, place), w .makeSummary s, w .as-made s, y, r .sum, r .difference, r .columns, allows d s b c (a .0) (rw (a .1 ∙ sym (summary-said F (C .unsigned) (K .state d) s b c))), refl))
 
     -- each sort of block of a decoder leaves something
@@ -189,20 +190,20 @@ module _ {A D R N S T : Type 0} (K : Format A D R N S T) where
       some-run d [] = ([], tt)
       some-run d (c ∷ cs) = let l = one d c in let n = some-run (l .0 .decoder) cs in (l .0 ∷ n .0, (l .1, n .1))
 
-    pub plainly : AllowsBlock (K .plain) → BlockRight K (K .plain) → (d : D) (cs : List (Call A)) → (ls : List (Left A D)) × Runs K (plainDecoder K) d cs ls
+    pub plainly : AllowsBlock (K .plainReply) (w .replyPlain) (K .plain) → BlockRight K (K .plainReply) (K .plain) → (d : D) (cs : List (Call A)) → (ls : List (Left A D)) × Runs K (plainDecoder K) d cs ls
     plainly p right =
         some-run (plainDecoder K)
         (record {
-          blocks = λ d b. (leftBy d b, some-block (K .plain) p d b);
-          mergeds = some-matrix (K .plain) p;
-          summaries = some-shown (K .plain) p right;
+          blocks = λ d b. (leftBy (K .plainReply) (w .replyPlain) d b, some-block (K .plainReply) (w .replyPlain) (K .plain) p d b);
+          mergeds = some-matrix (K .plainReply) (w .replyPlain) (K .plain) p;
+          summaries = some-shown (K .plainReply) (w .replyPlain) (K .plain) p right;
         })
 
-    pub fastly : AllowsBlock (K .fast) → AllowsMerged (K .merged) → AllowsSummary (K .summary) → (d : D) (cs : List (Call A)) → (ls : List (Left A D)) × Runs K (fastDecoder K) d cs ls
+    pub fastly : AllowsBlock (K .fastReply) (w .replyFast) (K .fast) → AllowsMerged (K .fastReply) (w .replyFast) (K .merged) → AllowsSummary (K .summary) → (d : D) (cs : List (Call A)) → (ls : List (Left A D)) × Runs K (fastDecoder K) d cs ls
     fastly f m s =
         some-run (fastDecoder K)
         (record {
-          blocks = λ d b. (leftBy d b, some-block (K .fast) f d b);
-          mergeds = some-merged (K .merged) m;
+          blocks = λ d b. (leftBy (K .fastReply) (w .replyFast) d b, some-block (K .fastReply) (w .replyFast) (K .fast) f d b);
+          mergeds = some-merged (K .fastReply) (w .replyFast) (K .merged) m;
           summaries = some-summary (K .summary) s;
         })

@@ -29,9 +29,9 @@ use Rattle.decoder_record.proofs.pll_f32.StereoPllF32.new.Met as f32-make-met
 use Rattle.decoder.proofs.plain.block.Reads as f32-plain
 use Rattle.decoder.proofs.plain.block.Symbol as f32-plain-symbol
 use Rattle.decoder.proofs.plain.block.Met as f32-plain-met
-use Rattle.decoder.proofs.fast.block.Reads as f32-fast
-use Rattle.decoder.proofs.fast.block.Symbol as f32-fast-symbol
-use Rattle.decoder.proofs.fast.block.Met as f32-fast-met
+use Rattle.decoder_fast.proofs.block.Reads as f32-fast
+use Rattle.decoder_fast.proofs.block.Symbol as f32-fast-symbol
+use Rattle.decoder_fast.proofs.block.Met as f32-fast-met
 use Rattle.merged.proofs.in_f32.block.Reads as f32-merged
 use Rattle.merged.proofs.in_f32.block.Symbol as f32-merged-symbol
 use Rattle.merged.proofs.in_f32.block.Met as f32-merged-met
@@ -81,12 +81,12 @@ built-q15 : (r : NewQ15) → mapBuilt pllQ15 (builtQ15 r) ≡ saysQ15 r
 built-q15 (q15-new.Made d) = refl
 built-q15 (q15-new.Refused n) = refl
 
-shown-f32 : Shown F32
+pub shown-f32 : Shown F32
 shown-f32 = record {
   plain-right = λ κs d t x p y z r y' z' h. h;
-  fast-right = λ κs d t x p y z r y' z' h. h;
-  merged-right = λ κs d t x p y z r y' z' h. h;
-  summary-right = λ κs d s t x p y z e f g m r y' z' e' f' g' m' h. h;
+  fast-right = λ κs d t x p y z r y' z' h. h .0;
+  merged-right = λ κs d t x p y z r y' z' h. h .0;
+  summary-right = λ κs d s t x p y z e f g m r y' z' e' f' g' m' h. h .0;
   unsigned-shown = unsigned-f32;
   sets-right = record { enables = λ d e h. h; disables = λ d e h. h; resets = λ d e h. h };
   make-right = λ a r h. built-f32 r ∙ h;

@@ -20,7 +20,9 @@ use Rattle.decoder_record.specs.declared.pll_f32.NewF32.the-variants as f32-new
 use Rattle.decoder_record_q15.specs.declared.pll_q15.StereoPllQ15.{StereoPllQ15}
 use Rattle.decoder_record_q15.specs.declared.pll_q15.NewQ15.{NewQ15}
 use Rattle.decoder_record_q15.specs.declared.pll_q15.NewQ15.the-variants as q15-new
+use Rattle.counted.specs.Counted.{saidIn}
 use Rattle.decoder.specs.declared.parts.ReplyF32.{ReplyF32}
+use Rattle.decoder_fast.specs.declared.FastReply.{FastReply}
 use Rattle.decoder_q15.specs.declared.parts.ReplyQ15.{ReplyQ15}
 use Rattle.summary_record.specs.F32.{summaryF32}
 use Rattle.summary_record.specs.declared.in_f32.SummaryF32.{SummaryF32}
@@ -39,9 +41,9 @@ use Rattle.decoder_record.proofs.pll_f32.StereoPllF32.new.Symbol as f32-make-sy
 use Rattle.decoder.proofs.plain.block.Reads as f32-plain
 use Rattle.decoder.proofs.plain.block.Kinds as f32-plain-kinds
 use Rattle.decoder.proofs.plain.block.Symbol as f32-plain-symbol
-use Rattle.decoder.proofs.fast.block.Reads as f32-fast
-use Rattle.decoder.proofs.fast.block.Kinds as f32-fast-kinds
-use Rattle.decoder.proofs.fast.block.Symbol as f32-fast-symbol
+use Rattle.decoder_fast.proofs.block.Reads as f32-fast
+use Rattle.decoder_fast.proofs.block.Kinds as f32-fast-kinds
+use Rattle.decoder_fast.proofs.block.Symbol as f32-fast-symbol
 use Rattle.merged.proofs.in_f32.block.Reads as f32-merged
 use Rattle.merged.proofs.in_f32.block.Kinds as f32-merged-kinds
 use Rattle.merged.proofs.in_f32.block.Symbol as f32-merged-symbol
@@ -91,16 +93,16 @@ builtQ15 (q15-new.Made d) = made d
 builtQ15 (q15-new.Refused n) = refused n
 
 -- f32: the integrator is in -imax..=imax if every table entry of the accepted blocks lies in -1 to 1
-abbrev pub F32 : Format Float StereoPllF32 ReplyF32 NewF32 SummaryF32 SummarizedF32
+abbrev pub F32 : Format Float StereoPllF32 ReplyF32 FastReply NewF32 SummaryF32 SummarizedF32
 F32 = record {
   core = coreF32;
   newOf = λ a. newF32Of (a .pilot) (a .natural) (a .level) (a .beta) (a .rate);
   state = pllF32;
-  said = λ r. says (r .answer);
-  decoder = λ r. r .decoder;
+  plainReply = λ r. record { said = says (r .answer); decoder = r .decoder };
+  fastReply = λ r. record { said = saidIn (r .answer); decoder = r .decoder };
   built = builtF32;
   summaryState = summaryF32;
-  replied = λ r. record { said = says (r .answer); decoder = r .decoder; summary = r .summary };
+  replied = λ r. record { said = saidIn (r .answer); decoder = r .decoder; summary = r .summary };
   make = λ a r. f32-make.Learnt tt (a .pilot, (a .natural, (a .level, (a .beta, (a .rate, tt))))) r (a .pilot, (a .natural, (a .level, (a .beta, (a .rate, tt)))));
   plain = λ κs d t x p y z r y' z'. f32-plain.Learnt κs (d, (t, (x, (p, (y, (z, tt)))))) r (d, (t, (x, (p, (y', (z', tt))))));
   fast = λ κs d t x p y z r y' z'. f32-fast.Learnt κs (d, (t, (x, (p, (y, (z, tt)))))) r (d, (t, (x, (p, (y', (z', tt))))));
@@ -114,13 +116,13 @@ F32 = record {
 }
 
 -- Q15: the integrator is in -imax..=imax, and the record is fit, so that cause 0 is never met
-abbrev pub Q15 : Format ℤ StereoPllQ15 ReplyQ15 NewQ15 SummaryQ15 SummarizedQ15
+abbrev pub Q15 : Format ℤ StereoPllQ15 ReplyQ15 ReplyQ15 NewQ15 SummaryQ15 SummarizedQ15
 Q15 = record {
   core = coreQ15;
   newOf = λ a. newQ15Of (a .pilot) (a .natural) (a .level) (a .beta) (a .rate);
   state = pllQ15;
-  said = λ r. says (r .answer);
-  decoder = λ r. r .decoder;
+  plainReply = λ r. record { said = says (r .answer); decoder = r .decoder };
+  fastReply = λ r. record { said = says (r .answer); decoder = r .decoder };
   built = builtQ15;
   summaryState = summaryQ15;
   replied = λ r. record { said = says (r .answer); decoder = r .decoder; summary = r .summary };
@@ -156,8 +158,8 @@ pub record Demand3 : Type 2 where
   pub q15-enable-callable : Callable 0 q15-enable-kinds.ps q15-enable-kinds.r q15-enable-symbol.routine q15-enable.Learnt
   pub q15-disable-callable : Callable 0 q15-disable-kinds.ps q15-disable-kinds.r q15-disable-symbol.routine q15-disable.Learnt
   pub q15-reset-callable : Callable 0 q15-reset-kinds.ps q15-reset-kinds.r q15-reset-symbol.routine q15-reset.Learnt
-  pub own-matrix : {A D R N S T : Type 0} (K : Format A D R N S T) → OwnMatrix K
-  pub own-summary : {A D R N S T : Type 0} (K : Format A D R N S T) → OwnSummary K
+  pub own-matrix : {A D R Q N S T : Type 0} (K : Format A D R Q N S T) → OwnMatrix K
+  pub own-summary : {A D R Q N S T : Type 0} (K : Format A D R Q N S T) → OwnSummary K
   pub in-f32 : Demand F32
   pub in-q15 : Demand Q15
 

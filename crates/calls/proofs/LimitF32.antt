@@ -1,19 +1,19 @@
 -- The f32 integrator stays within its limit over every list of events whose samples have tables within -1..1.
 -- Assumes nothing.
-use Prim.Native.Nat.{ℕ, zero, suc, _+_, _*_, _/_, _%_, _≤_, _<_}
+use Prim.Native.Nat.{ℕ, zero, suc, _+_, _*_, _/_, _%_, _<_}
 use mathlib.Core.Path.{_≡_, refl, sym, ap, _∙_, subst}
-use mathlib.Core.Bool.{Bool, true, false, not, _&&_, _||_, cond, true≢false}
+use mathlib.Core.Bool.{Bool, true, false, not, cond, true≢false}
 use mathlib.Core.List.{List, [], _∷_}
 use native.Mathlib.Omega.{arith}
-use native.Mathlib.Nat.{le-trans, le-of-eq, le-of-lt, mul-one, zero-mul, not-suc-le-zero, le-of-suc-le-suc}
+use native.Mathlib.Nat.{le-trans, le-of-eq, mul-one, zero-mul, not-suc-le-zero, le-of-suc-le-suc}
 use borrow.Author.Tests.{ltb-true, not-true}
-use lib.Dec.{T, ltb, eqb, ltb→lt, eqb→eq, lit<}
+use lib.Dec.{T, ltb, eqb, eqb→eq, lit<, lit≤}
 use lib.Arith.{le→nltb}
 use lib.ListN.{length, getD}
 use lib.IntN.{pos}
 use lib.Ieee.{Float, nan, inf, fin, binary32, up, down, add, mul, sub, neg, lt, le, eq, isNan}
 use lib.Ieee.Scale.{finite}
-use Rattle.rounding.proofs.Bound.{Within, within-finite, round-within, lookup-within, le-of}
+use Rattle.rounding.proofs.Bound.{Within, Upto, within-finite, within-between, round-within, lookup-within}
 use Rattle.rounding.proofs.Finite.{eq-zero}
 use Rattle.rounding.proofs.Order.{le-of-not-lt, le-self, neg-real, add-real, mul-real, mul-real', nonzero, between-finite}
 use Rattle.floats.specs.Floats.{absOf, toFormat, inRange}
@@ -32,53 +32,38 @@ use Rattle.decoder_record.specs.Fresh.{freshF32, newF32Of}
 use Rattle.decoder_record.proofs.Fresh.{made-f32}
 use Rattle.calls.specs.Events.{Event, sample, switch, clear, after, unitTable, UnitTables}
 
--- ---- a lookup in a table within -1..1 is finite
-holds : {b : Bool} → b ≡ true → T b
+-- ---- a lookup in a table within -1..1 is at most 3 / 2 in size
+pub holds : {b : Bool} → b ≡ true → T b
 holds h = subst T (sym h) tt
 
-eq-swap : (a b : ℕ) → T (ltb a b || (eqb b a && true)) → a ≤ b
-eq-swap a b t = go (ltb a b) (eqb b a) (ltb→lt a b) (eqb→eq b a) t
-  where
-    go : (x y : Bool) → (T x → a < b) → (T y → b ≡ a) → T (x || (y && true)) → a ≤ b
-    go true y f g t = le-of-lt (f tt)
-    go false true f g t = le-of-eq (sym (g tt))
-    go false false f g t = absurd t
+pub unit-within : (x : Float) → inRange (fin true 1 (pos 0)) (fin false 1 (pos 0)) x ≡ true → Upto 2 x
+unit-within x h =
+    let w = and-out (le (fin true 1 (pos 0)) x) (le x (fin false 1 (pos 0))) h in
+    within-between (λ q. 2) (fin true 1 (pos 0)) x (fin false 1 (pos 0)) (lit≤ tt) (lit≤ tt) (holds (w .0)) (holds (w .1))
 
-unit-within : (x : Float) → T (le (fin true 1 (pos 0)) x) → T (le x (fin false 1 (pos 0))) → Within 1 x
-unfolding le
-unit-within nan h k = h
-unit-within (inf true) h k = h
-unit-within (inf false) h k = k
-unit-within (fin true m e) h k = le-trans (le-of-eq (sym (mul-one (m * up e)))) (eq-swap (m * up e * 1) (1 * down e) h)
-unit-within (fin false m e) h k = le-trans (le-of-eq (sym (mul-one (m * up e)))) (le-of (m * up e * 1) (1 * down e) k)
-
-entry-within : (t : List Float) (i : ℕ) → unitTable t ≡ true → i < length t → Within 1 (getD t i nan)
+entry-within : (t : List Float) (i : ℕ) → unitTable t ≡ true → i < length t → Upto 2 (getD t i nan)
 entry-within [] i h l = absurd (not-suc-le-zero l)
-entry-within (x ∷ t) zero h l =
-    let r = and-out (inRange (fin true 1 (pos 0)) (fin false 1 (pos 0)) x) (unitTable t) h .0 in
-    let w = and-out (le (fin true 1 (pos 0)) x) (le x (fin false 1 (pos 0))) r in
-    unit-within x (holds (w .0)) (holds (w .1))
+entry-within (x ∷ t) zero h l = unit-within x (and-out (inRange (fin true 1 (pos 0)) (fin false 1 (pos 0)) x) (unitTable t) h .0)
 entry-within (x ∷ t) (suc i) h l = entry-within t i (and-out (inRange (fin true 1 (pos 0)) (fin false 1 (pos 0)) x) (unitTable t) h .1) (le-of-suc-le-suc l)
 
-frac-within : (p : ℕ) → Within 1 (fracF32 p)
-frac-within p = round-within binary32 false (p % 1048576) 1048576 1 (lit< tt) (low p) (lit< tt)
-  where
-    low : (p : ℕ) → p % 1048576 ≤ 1 * 1048576
-    low p = omega arith
+frac-within : (p : ℕ) → Within (λ q. cond q 0 2) (fracF32 p)
+frac-within p = round-within binary32 (λ q. cond q 0 2) false (p % 1048576) 1048576 (lit< tt) (omega arith) (lit< tt)
 
-cos-finite : (t : List Float) (p : ℕ) → unitTable t ≡ true → T (finite (cosF32 t p))
+pub cos-within : (t : List Float) (p : ℕ) → unitTable t ≡ true → Upto 3 (cosF32 t p)
 unfolding cosF32
-cos-finite t p h = go (ltb (p / 1048576 + 1) (length t)) refl
+cos-within t p h = go (ltb (p / 1048576 + 1) (length t)) refl
   where
-    near : (i n : ℕ) → i + 1 < n → i < n
-    near i n h = omega arith
+    a : Float
+    a = getD t (p / 1048576) nan
 
-    go : (b : Bool) → ltb (p / 1048576 + 1) (length t) ≡ b
-        → T (finite (cond b (add binary32 (getD t (p / 1048576) nan) (mul binary32 (sub binary32 (getD t (p / 1048576 + 1) nan) (getD t (p / 1048576) nan)) (fracF32 p))) (fin false 0 (pos 0))))
+    b : Float
+    b = getD t (p / 1048576 + 1) nan
+
+    go : (u : Bool) → ltb (p / 1048576 + 1) (length t) ≡ u → Upto 3 (cond u (add binary32 a (mul binary32 (sub binary32 b a) (fracF32 p))) (fin false 0 (pos 0)))
     go true e =
         let l = ltb-true (p / 1048576 + 1) (length t) e in
-        within-finite 3 (add binary32 (getD t (p / 1048576) nan) (mul binary32 (sub binary32 (getD t (p / 1048576 + 1) nan) (getD t (p / 1048576) nan)) (fracF32 p))) (lookup-within binary32 (getD t (p / 1048576) nan) (getD t (p / 1048576 + 1) nan) (fracF32 p) (lit< tt) (entry-within t (p / 1048576) h (near (p / 1048576) (length t) l)) (entry-within t (p / 1048576 + 1) h l) (frac-within p))
-    go false e = tt
+        lookup-within binary32 a b (fracF32 p) (entry-within t (p / 1048576) h (omega arith)) (entry-within t (p / 1048576 + 1) h l) (frac-within p)
+    go false e = lit≤ tt
 
 -- ---- the limited integrator
 flush-real : (x : Float) → T (not (isNan x)) → T (not (isNan (flushOf x)))
@@ -122,19 +107,28 @@ origin (fin false k e) f h = (
   le-of-not-lt (fin false k e) (fin false 0 (pos 0)) tt tt (le→nltb (k * up e * 1) (0 * down e) (le-trans (le-of-eq (zero-mul (down e))) (omega arith))),
 )
 
--- what construction gives and every event keeps: of the gains, and of the integrator
-pub record Bounded (g : Gains Float) (integ : Float) : Type 0 where
+-- what construction gives of the gains, which no event changes
+pub record Proper (g : Gains Float) : Type 0 where
+  pub kp-finite : T (finite (g .kp))
+  pub kp-plus : T (plus (g .kp))
   pub ki-finite : T (finite (g .ki))
   pub ki-some : T (nonzero (g .ki))
   pub imax-finite : T (finite (g .imax))
   pub imax-plus : T (plus (g .imax))
+
+-- and what every event keeps of the integrator
+pub record Bounded (g : Gains Float) (integ : Float) : Type 0 where
+  pub proper : Proper g
   pub low : T (le (neg (g .imax)) integ)
   pub high : T (le integ (g .imax))
 
 abbrev pub InBounds : Pll Float → Type 0
 InBounds d = Bounded (d .gains) (d .moving .integ)
 
-real : (x : Float) → T (finite x) → T (not (isNan x))
+pub start-bounded : (g : Gains Float) → Proper g → Bounded g nought
+start-bounded g p = let o = origin (g .imax) (p .imax-finite) (p .imax-plus) in record { proper = p; low = o .0; high = o .1 }
+
+pub real : (x : Float) → T (finite x) → T (not (isNan x))
 unfolding isNan
 real nan h = h
 real (inf s) h = tt
@@ -151,19 +145,20 @@ unfolding isNan
 error-real t phase p h = go (finite p) refl
   where
     go : (u : Bool) → finite p ≡ u → T (not (isNan (cond u (mul binary32 p (cosF32 t phase)) (fin false 0 (pos 0)))))
-    go true e = mul-real binary32 p (cosF32 t phase) (holds e) (cos-finite t phase h)
+    go true e = mul-real binary32 p (cosF32 t phase) (holds e) (within-finite (λ q. 3) (cosF32 t phase) (cos-within t phase h))
     go false e = tt
 
-integ-bounded : (g : Gains Float) (integ e : Float) → T (not (isNan e)) → Bounded g integ → Bounded g (limited f32 (g .imax) (accumulateF32 integ (g .ki) e))
+pub integ-bounded : (g : Gains Float) (integ e : Float) → T (not (isNan e)) → Bounded g integ → Bounded g (limited f32 (g .imax) (accumulateF32 integ (g .ki) e))
 unfolding accumulateF32
 integ-bounded g integ e k b =
-    let i = between-finite (neg (g .imax)) integ (g .imax) (neg-finite (g .imax) (b .imax-finite)) (b .imax-finite) (b .low) (b .high) in
+    let p = b .proper in
+    let i = between-finite (neg (g .imax)) integ (g .imax) (neg-finite (g .imax) (p .imax-finite)) (p .imax-finite) (b .low) (b .high) in
     let s = add binary32 integ (mul binary32 (g .ki) e) in
-    let r = flush-real s (add-real binary32 integ (mul binary32 (g .ki) e) i (mul-real' binary32 (g .ki) e (b .ki-finite) (b .ki-some) k)) in
-    let w = limited-in (g .imax) (flushOf s) (real (g .imax) (b .imax-finite)) r (minus-le (g .imax) (b .imax-finite) (b .imax-plus)) in
-    record { ki-finite = b .ki-finite; ki-some = b .ki-some; imax-finite = b .imax-finite; imax-plus = b .imax-plus; low = w .0; high = w .1 }
+    let r = flush-real s (add-real binary32 integ (mul binary32 (g .ki) e) i (mul-real' binary32 (g .ki) e (p .ki-finite) (p .ki-some) k)) in
+    let w = limited-in (g .imax) (flushOf s) (real (g .imax) (p .imax-finite)) r (minus-le (g .imax) (p .imax-finite) (p .imax-plus)) in
+    record { proper = p; low = w .0; high = w .1 }
 
-next-bounded : (t : List Float) (d : Pll Float) (x p : Float) → unitTable t ≡ true → InBounds d → InBounds (stepOf f32 t d x p .pll)
+pub next-bounded : (t : List Float) (d : Pll Float) (x p : Float) → unitTable t ≡ true → InBounds d → InBounds (stepOf f32 t d x p .pll)
 unfolding stepOf advancedBy
 next-bounded t d x p h b = integ-bounded (d .gains) (d .moving .integ) _ (error-real t (d .moving .phase) p h) b
 
@@ -171,9 +166,7 @@ pub bounded-always : (d : Pll Float) (es : List (Event Float)) → InBounds d �
 bounded-always d [] b u = b
 bounded-always d (sample t x p ∷ es) b u = bounded-always (stepOf f32 t d x p .pll) es (next-bounded t d x p (u .0) b) (u .1)
 bounded-always d (switch s ∷ es) b u = bounded-always (enabledOf s d) es b u
-bounded-always d (clear ∷ es) b u =
-    let o = origin (d .gains .imax) (b .imax-finite) (b .imax-plus) in
-    bounded-always (resetOf (fin false 0 (pos 0)) d) es (record { ki-finite = b .ki-finite; ki-some = b .ki-some; imax-finite = b .imax-finite; imax-plus = b .imax-plus; low = o .0; high = o .1 }) u
+bounded-always d (clear ∷ es) b u = bounded-always (resetOf nought d) es (start-bounded (d .gains) (b .proper)) u
 
 -- ---- construction
 nonzero-of : (x : Float) → T (finite x) → eq x nought ≡ false → T (nonzero x)
@@ -204,9 +197,15 @@ fresh-bounded g s n =
     let b = and-out (narrows (g .ki)) _ (a .1) in
     let c = and-out (narrows (g .imax)) _ (b .1) in
     let k = narrowed (g .ki) (b .0) in
-    let m = narrowed (g .imax) (c .0) in
-    let o = origin (toFormat binary32 (g .imax)) (m .0) (plus-at (g .imax) (s .imax)) in
-    record { ki-finite = k .0; ki-some = k .1; imax-finite = m .0; imax-plus = plus-at (g .imax) (s .imax); low = o .0; high = o .1 }
+    start-bounded (freshF32 g .gains)
+    (record {
+      kp-finite = narrowed (g .kp) (a .0) .0;
+      kp-plus = plus-at (g .kp) (s .kp);
+      ki-finite = k .0;
+      ki-some = k .1;
+      imax-finite = narrowed (g .imax) (c .0) .0;
+      imax-plus = plus-at (g .imax) (s .imax);
+    })
 
 pub bounded-new : (pilot natural level beta rate : Float) (d : Pll Float) → newF32Of pilot natural level beta rate ≡ made d → InBounds d
 bounded-new pilot natural level beta rate d h =

@@ -102,7 +102,7 @@ module _ {A : Type 0} (F : Arithmetic A) (unsigned : A → Bool) where
         is-run = rw h;
       }
 
-module _ {A D R N S T : Type 0} (K : Format A D R N S T) where
+module _ {A D R Q N S T : Type 0} (K : Format A D R Q N S T) where
   abbrev F : Arithmetic A
   F = K .core .arithmetic
 

@@ -22,7 +22,7 @@ use Rattle.calls.proofs.Agreement.{SetsRight, BlocksRight, ofBlock, ofS
 use Rattle.calls.proofs.Periods.{from-fresh}
 use Rattle.calls.proofs.Gathering.{Whole, going-through, fit-through, gathering, ending, allSteps, list-adds, raw-is, markedSteps, all-marked, all-events}
 
-module _ {A D R N S T : Type 0} (K : Format A D R N S T) where
+module _ {A D R Q N S T : Type 0} (K : Format A D R Q N S T) where
   abbrev C : Core A
   C = K .core
 

@@ -54,22 +54,27 @@ SummaryLearnt A D S T =
     → T → RefT (List A) → RefT (List A)
     → RefT (List ℕ) → RefT (List ℕ) → RefT (List ℕ) → RefT (List A) → Type 0
 
+-- a block's reply by its parts: the answer, and the decoder's record D
+pub record Answered (D : Type 0) : Type 0 where
+  pub said : Said
+  pub decoder : D
+
 -- a summary call's reply, T, by its parts: the answer, the decoder's record D and the summary's, S
 pub record Replied (D S : Type 0) : Type 0 where
   pub said : Said
   pub decoder : D
   pub summary : S
 
--- a format: A is its sample, D the decoder's record, R a block's reply, N construction's answer, S a summary's
--- record, T a summary call's reply
-pub record Format (A D R N S T : Type 0) : Type 1 where
+-- a format: A is its sample, D the decoder's record, R a plain block's reply, Q a fast one's, N construction's
+-- answer, S a summary's record, T a summary call's reply
+pub record Format (A D R Q N S T : Type 0) : Type 1 where
   -- the machine: its arithmetic, matrix and magnitudes, and how it begins for construction's arguments
   pub core : Core A
   pub newOf : Arguments → Built (Pll A)
   -- the records, the replies and construction's answer in its terms
   pub state : D → Pll A
-  pub said : R → Said
-  pub decoder : R → D
+  pub plainReply : R → Answered D
+  pub fastReply : Q → Answered D
   pub built : N → Built D
   pub summaryState : S → Summary A
   pub replied : T → Replied D S
@@ -77,8 +82,8 @@ pub record Format (A D R N S T : Type 0) : Type 1 where
   -- summaries, which are fast, and of the three calls that are common to both decoders
   pub make : Arguments → N → Type 0
   pub plain : BlockLearnt A D R
-  pub fast : BlockLearnt A D R
-  pub merged : BlockLearnt A D R
+  pub fast : BlockLearnt A D Q
+  pub merged : BlockLearnt A D Q
   pub summary : SummaryLearnt A D S T
   pub enable : D → D → Type 0
   pub disable : D → D → Type 0
@@ -103,7 +108,7 @@ firstOf n b = record {
   second = take n (b .second);
 }
 
-module _ {A D R N S T : Type 0} (K : Format A D R N S T) where
+module _ {A D R Q N S T : Type 0} (K : Format A D R Q N S T) where
   abbrev C : Core A
   C = K .core
 
@@ -119,15 +124,15 @@ module _ {A D R N S T : Type 0} (K : Format A D R N S T) where
   seen l = record { said = l .said; outputs = l .outputs; decoder = K .state (l .decoder) }
 
   -- ---- the plain and the fast decoder
-  -- a block made with the record d may leave l, wherever its slices lie
-  abbrev pub Leaves : BlockLearnt A D R → D → Brought A → Left A D → Type 0
-  Leaves B d b l =
+  -- a block made with the record d may leave l, wherever its slices lie; parts reads its reply
+  abbrev pub Leaves : {X : Type 0} → (X → Answered D) → BlockLearnt A D X → D → Brought A → Left A D → Type 0
+  Leaves {X} parts B d b l =
       (κs : Lfts 5) × (w : Place × Place × Place × Place × Place)
-      × (r : R) × (first : List A) × (second : List A)
+      × (r : X) × (first : List A) × (second : List A)
       × B κs d (lent (w .0) (b .table)) (lent (w .1) (b .mpx)) (lent (w .2) (b .pilot))
       (lent (w .3) (b .first)) (lent (w .4) (b .second))
       r (lent (w .3) first) (lent (w .4) second)
-      × (l ≡ leaving (K .said r) first second (K .decoder r))
+      × (l ≡ leaving (parts r .said) first second (parts r .decoder))
 
   -- the merged block that a block makes: the matrix of the outputs that it leaves, or its refusal
   abbrev pub MatrixOf : (D → Brought A → Left A D → Type 0) → D → Brought A → Left A D → Type 0
@@ -175,19 +180,23 @@ module _ {A D R N S T : Type 0} (K : Format A D R N S T) where
       (leavingSummary says (b .first) (b .second) c s d))
 
   abbrev pub plainDecoder : Decoder A D
-  plainDecoder = let own = Leaves (K .plain) in record { block = own; merged = MatrixOf own; summary = SummaryBy own }
+  plainDecoder = let own = Leaves (K .plainReply) (K .plain) in record { block = own; merged = MatrixOf own; summary = SummaryBy own }
 
   abbrev pub fastDecoder : Decoder A D
-  fastDecoder = record { block = Leaves (K .fast); merged = Leaves (K .merged); summary = LeavesSummary (K .summary) }
+  fastDecoder = record {
+    block = Leaves (K .fastReply) (K .fast);
+    merged = Leaves (K .fastReply) (K .merged);
+    summary = LeavesSummary (K .summary);
+  }
 
   -- the plain decoder's merged block is the matrix of its own block's outputs
   abbrev pub OwnMatrix : Type 0
-  OwnMatrix = (d : D) (b : Brought A) (l : Left A D) → plainDecoder .merged d b l → MatrixOf (Leaves (K .plain)) d b l
+  OwnMatrix = (d : D) (b : Brought A) (l : Left A D) → plainDecoder .merged d b l → MatrixOf (Leaves (K .plainReply) (K .plain)) d b l
 
   -- .. and its summaries are those of what its own block shows
   abbrev pub OwnSummary : Type 0
   OwnSummary = (d : D) (s : Summary A) (b : Brought A) (c : Columns A) (l : Left A D)
-      → plainDecoder .summary d s b c l → SummaryBy (Leaves (K .plain)) d s b c l
+      → plainDecoder .summary d s b c l → SummaryBy (Leaves (K .plainReply) (K .plain)) d s b c l
 
   module _ (W : Decoder A D) where
     -- this call, made with the record d, may leave l

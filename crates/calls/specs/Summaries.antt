@@ -134,7 +134,7 @@ module _ {A : Type 0} (C : Core A) where
       cond (summarizes c) (outcomesOf (C .arithmetic) d (eventsOf C d c)) [] ++ rawOf (callOf C d c .decoder) cs
 
 -- ---- the claims
-module _ {A D R N S T : Type 0} (K : Format A D R N S T) where
+module _ {A D R Q N S T : Type 0} (K : Format A D R Q N S T) where
   abbrev C : Core A
   C = K .core
 

@@ -36,6 +36,9 @@ module _ {A : Type 0} (F : Arithmetic A) (t mpx pilot sum difference : List A) (
           let n = lengths-equal (length t) (length mpx) (length pilot) (length sum) (length difference) (causes .1) in
           (n .0, n .1, n .2, rule-passed 0 (F .fit d) (causes .0))
 
-      pub ran : {sums differences : List A} {next : Pll A} → record { said = accepted; sum = sums; difference = differences; pll = next } ≡ runOf F d t mpx pilot
-          → record { said = s; sum = sums; difference = differences; pll = next } ≡ blockOf F d t mpx pilot sum difference
-      ran r = rw (none-yet s (passed k h)) (carried-out F t mpx pilot d sum difference s says-is (passed k h) r)
+      module _ {sums differences : List A} {next : Pll A} (r : record { said = accepted; sum = sums; difference = differences; pll = next } ≡ runOf F d t mpx pilot) where
+        pub ran-accepted : record { said = accepted; sum = sums; difference = differences; pll = next } ≡ blockOf F d t mpx pilot sum difference
+        ran-accepted = carried-out F t mpx pilot d sum difference s says-is (passed k h) r
+
+        pub ran : record { said = s; sum = sums; difference = differences; pll = next } ≡ blockOf F d t mpx pilot sum difference
+        ran = rw (none-yet s (passed k h)) ran-accepted

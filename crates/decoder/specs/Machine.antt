@@ -57,29 +57,36 @@ module _ {A : Type 0} (F : Arithmetic A) where
   abbrev pub limited : A → A → A
   limited = limitedBy (F .under) (F .minus)
 
+  -- 2: the error; a pilot sample that takes no part gives 0
+  abbrev pub errorOf : List A → Pll A → A → A
+  errorOf t d p = cond (F .usable p) (F .times p (F .lookup t (d .moving .phase))) (F .nought)
+
+  -- 6: the next integrator, from the error e
+  abbrev pub integOf : Pll A → A → A
+  integOf d e = limited (d .gains .imax) (F .accumulate (d .moving .integ) (d .gains .ki) e)
+
+  -- 7: f
+  abbrev pub frequencyOf : Pll A → A → A
+  frequencyOf d e = F .frequency (d .gains .kp) e (integOf d e)
+
   -- the last two steps, from the error e; the level and the decision are those of steps 3 and 4
   unfoldable pub advancedBy : Pll A → A → A → Bool → Pll A
   advancedBy d e level stereo =
       let g = d .gains in
       let m = d .moving in
-      -- 6
-      let integ = limited (g .imax) (F .accumulate (m .integ) (g .ki) e) in
-      -- 7
-      let f = F .frequency (g .kp) e integ in
-      let phase = phaseAfter (m .phase) (g .step0) (F .correction f) in
-      movedTo d (record { phase = phase; integ = integ; level = level; stereo = stereo })
+      let phase = phaseAfter (m .phase) (g .step0) (F .correction (frequencyOf d e)) in
+      movedTo d (record { phase = phase; integ = integOf d e; level = level; stereo = stereo })
 
   -- one sample: mpx x, pilot p
   unfoldable pub stepOf : List A → Pll A → A → A → Stepped A
   stepOf t d x p =
       let g = d .gains in
       let m = d .moving in
-      -- 1
-      let c = F .lookup t (m .phase) in
+      -- 1; c is in the error
       let s = F .lookup t (sineAt 1 (m .phase)) in
       let s2 = F .lookup t (sineAt 2 (m .phase)) in
-      -- 2: a pilot sample that takes no part gives e = 0 and skips 3 and 4
-      let e = cond (F .usable p) (F .times p c) (F .nought) in
+      -- 2: a pilot sample that takes no part skips 3 and 4
+      let e = errorOf t d p in
       let q = F .times p s in
       -- 3
       let level = cond (F .usable p) (F .levelNext (g .beta) (m .level) q) (m .level) in

@@ -1,4 +1,4 @@
-// What the f32 loops share.
+// What the f32 blocks share.
 use answers::answer::Answer;
 use answers::answer::ENTRIES;
 use decoder_parts::advance::phase_after;
@@ -31,7 +31,7 @@ pub(crate) fn full_table(table: &[f32]) -> &[f32]
 }
 
 // The decoder after a sample that has this correction, integrator, level and decision.
-pub(crate) fn advanced(
+pub fn advanced(
     mut d: StereoPllF32,
     correction: u32,
     integ: f32,

@@ -2,6 +2,7 @@
 -- show, by F's `requires`. Assumes nothing.
 use mathlib.Core.Path.{_≡_, refl}
 use Rattle.phase.proofs.correction.correction_plain.Reads as correction-plain
+use Rattle.phase.proofs.correction.quick_serves.Reads as quick-serves
 use Rattle.phase.proofs.correction.correction_quick.Reads as correction-quick
 use Rattle.phase.proofs.correction.correction_fast.Reads as correction-fast
 use Rattle.phase.proofs.lookup.sine_at.Reads as sine-at
@@ -14,6 +15,7 @@ use Rattle.phase.proofs.lookup.interp_q15.Reads as interp-q15
 
 pub nothing-asked :
     (correction-plain.Asked ≡ λ κs a. Unit {0})
+    × (quick-serves.Asked ≡ λ κs a. Unit {0})
     × (correction-quick.Asked ≡ λ κs a. Unit {0})
     × (correction-fast.Asked ≡ λ κs a. Unit {0})
     × (sine-at.Asked ≡ λ κs a. Unit {0})
@@ -23,4 +25,4 @@ pub nothing-asked :
     × (interp-f32-pair.Asked ≡ λ κs a. Unit {0})
     × (cos-q15.Asked ≡ λ κs a. Unit {0})
     × (interp-q15.Asked ≡ λ κs a. Unit {0})
-nothing-asked = (refl, refl, refl, refl, refl, refl, refl, refl, refl, refl)
+nothing-asked = (refl, refl, refl, refl, refl, refl, refl, refl, refl, refl, refl)

@@ -5,7 +5,7 @@ use mathlib.Core.Path.{_≡_, refl, sym, ap, _∙_}
 use mathlib.Core.Bool.{Bool, true, false, not, _&&_, cond, false≢true}
 use native.Mathlib.Omega.{arith}
 use native.Mathlib.Nat.{le-of-lt, add-mul, mul-one, lt-of-mul-lt-mul-right}
-use borrow.Author.Tests.{ltb-true, ltb-false, le-ltb}
+use borrow.Author.Tests.{ltb-true, ltb-false, lt-ltb, le-ltb}
 use lib.Dec.{T, ltb, ltb→lt, lt→ltb, lit<}
 use lib.IntN.{ℤ, pos, negsuc, negℤ}
 use lib.Ieee.{Float, nan, inf, fin, binary64, up, down, add, sub, mul, lt, below, round, isNan, toBits, toSigned}
@@ -22,7 +22,8 @@ use Rattle.floats.specs.Floats.{floorOf}
 use Rattle.numbers.specs.Scaled.{scaledOf}
 use Rattle.floats.proofs.Floats.{whole-at}
 use Rattle.phase.specs.declared.correction.Quick.the-variants.{Step, Wide}
-use Rattle.phase.specs.Correction.{correctionOf, limit, quickOf}
+use Rattle.phase.specs.declared.correction.Corrected.{Corrected}
+use Rattle.phase.specs.Correction.{correctionOf, vOf, quickServes, quickOf, correctedOf}
 
 -- 1.5 times 2^52, which is 0 modulo 2^32
 abbrev M : ℕ
@@ -73,16 +74,34 @@ pub record Ranged (v : Float) : Type 0 where
   pub small : a < 2 ^ 51 * d
   pub value : HasValue v s a d
 
-size-lt : (s : Bool) (m : ℕ) (e : ℤ) → lt (limit true) (fin s m e) ≡ true → lt (fin s m e) (limit false) ≡ true → m * up e < 2 ^ 51 * down e
-unfolding lt
-size-lt true m e p q = omega (arith, mul-one (m * up e), ltb-true (m * up e * 1) (2 ^ 51 * down e) p)
-size-lt false m e p q = omega (arith, mul-one (m * up e), ltb-true (m * up e * 1) (2 ^ 51 * down e) q)
+-- 2^51
+abbrev limit : Float
+limit = fin false 1 (pos 51)
 
-pub ranged : (v : Float) → lt (limit true) v ≡ true → lt v (limit false) ≡ true → Ranged v
-ranged nan p q = absurd (false≢true (unfold lt in p))
-ranged (inf true) p q = absurd (false≢true (unfold lt in p))
-ranged (inf false) p q = absurd (false≢true (unfold lt in q))
-ranged (fin s m e) p q = record { s = s; a = m * up e; d = down e; some = down-pos e; small = size-lt s m e p q; value = (refl, refl) }
+-- between -2^51 and 2^51, as the two tests have it, is below 2^51 in size
+pub serves-by : (v : Float) → cond (lt (fin true 1 (pos 51)) v) (lt v limit) false ≡ quickServes v
+unfolding lt
+serves-by nan = refl
+serves-by (inf true) = refl
+serves-by (inf false) = refl
+serves-by (fin true m e) = go (ltb (m * up e * 1) (2 ^ 51 * down e))
+  where
+    some : (a b : ℕ) → 0 < b → ltb 0 (a + b) ≡ true
+    some a b h = lt-ltb 0 (a + b) (omega arith)
+
+    go : (t : Bool) → cond t (ltb 0 (m * up e * 1 + 2 ^ 51 * down e)) false ≡ t
+    go true = some (m * up e * 1) (2 ^ 51 * down e) (omega (arith, down-pos e))
+    go false = refl
+serves-by (fin false m e) = go (2 ^ 51 * down e + m * up e * 1) (ltb (m * up e * 1) (2 ^ 51 * down e)) (omega (arith, down-pos e))
+  where
+    go : (n : ℕ) (t : Bool) → 0 < n → cond (ltb 0 n) t false ≡ t
+    go n t h = rw (lt-ltb 0 n h)
+
+pub ranged : (v : Float) → quickServes v ≡ true → Ranged v
+unfolding lt
+ranged nan h = absurd (false≢true h)
+ranged (inf s) h = absurd (false≢true h)
+ranged (fin s m e) h = record { s = s; a = m * up e; d = down e; some = down-pos e; small = omega (arith, mul-one (m * up e), ltb-true (m * up e * 1) (2 ^ 51 * down e) h); value = (refl, refl) }
 
 module _ {v : Float} (k : Ranged v) where
   abbrev s : Bool
@@ -154,20 +173,25 @@ module _ {v : Float} (k : Ranged v) where
       less false b q w x y z = omega arith
 
 -- ---- what the quick way gives
--- f times 2^32 plus 0.5
-abbrev pub scaled : Float → Float
-scaled f = add binary64 (mul binary64 f (fin false 1 (pos 32))) (fin false 1 (negsuc 0))
-
--- by the outcomes of its two tests, of f as an f64
-pub quick-by : {f g : Float} {x y : Bool} → g ≡ f → lt (limit true) (scaled g) ≡ x → lt (scaled g) (limit false) ≡ y → cond (x && y) (Step (modZ (toSigned 63 (floorOf (scaled g))) (2 ^ 32))) Wide ≡ quickOf f
+-- by the outcome of its test, of f as an f64
+pub quick-by : {f g : Float} {b : Bool} → g ≡ f → quickServes (vOf g) ≡ b → cond b (Step (modZ (toSigned 63 (floorOf (vOf g))) (2 ^ 32))) Wide ≡ quickOf f
 unfolding quickOf correctionOf scaledOf
-quick-by e p q = rw (← e, p, q)
+quick-by e p = rw (← e, p)
 
--- a step that it gives is the correction
-pub step-is : (f : Float) (n : ℕ) → quickOf f ≡ Step n → n ≡ correctionOf f
+-- the fast way, by what the quick one gives: its step and that it served, or else the correction n and that it
+-- did not
+pub step-is : (f : Float) (n : ℕ) → quickOf f ≡ Step n → _≡_ {A = Corrected} (record { step = n; quick = true }) (correctedOf f)
 unfolding quickOf
-step-is f n e = by (lt (limit true) (scaled f) && lt (scaled f) (limit false)) e
+step-is f n e = go (quickServes (vOf f)) e
   where
-    by : (t : Bool) → cond t (Step (correctionOf f)) Wide ≡ Step n → n ≡ correctionOf f
-    by true e = cc
-    by false e = let z : _≡_ {A = ℕ} 0 1 = cc in absurd (omega arith)
+    go : (t : Bool) → cond t (Step (correctionOf f)) Wide ≡ Step n → _≡_ {A = Corrected} (record { step = n; quick = true }) (record { step = correctionOf f; quick = t })
+    go true e = let z : n ≡ correctionOf f = cc in rw z
+    go false e = let z : _≡_ {A = ℕ} 0 1 = cc in absurd (omega arith)
+
+pub wide-is : (f : Float) (n : ℕ) → quickOf f ≡ Wide → n ≡ correctionOf f → _≡_ {A = Corrected} (record { step = n; quick = false }) (correctedOf f)
+unfolding quickOf
+wide-is f n e k = go (quickServes (vOf f)) e
+  where
+    go : (t : Bool) → cond t (Step (correctionOf f)) Wide ≡ Wide → _≡_ {A = Corrected} (record { step = n; quick = false }) (record { step = correctionOf f; quick = t })
+    go true e = let z : _≡_ {A = ℕ} 0 1 = cc in absurd (omega arith)
+    go false e = rw k

@@ -93,11 +93,16 @@ module _ {A : Type 0} {F : Arithmetic A} {number allowance : ℕ} {t : List A} {
   same-cut : cut ≡ map waitingOf qs
   same-cut = i .parts ∙ sym (queues-waiting ws flat)
 
+  -- the queues of the parts, and the answer by the queues
+  pub same-queues : queuesOf cut flat ≡ qs
+  same-queues = ap (λ (c : List Waiting). queuesOf c flat) (i .parts) ∙ queues-cut ws flat
+
+  pub answer-is : s ≡ roundSays number allowance (length t) (map (F .fit) ds) (map waitingOf qs)
+  answer-is = i .answer ∙ (λ j. roundSays number allowance (length t) (i .fit j) (same-cut j))
+
   by-answer : after s (kept s turns []) ≡ flatOf F number allowance t ds ws flat
   unfolding flatOf roundOf
-  by-answer =
-      ap (λ (z : Said). after z (kept z turns []))
-      (i .answer ∙ (λ j. roundSays number allowance (length t) (i .fit j) (same-cut j)))
+  by-answer = ap (λ (z : Said). after z (kept z turns [])) answer-is
 
   -- by the outcome of the test
   by-test : (b : Bool) → accepts s ≡ b → after s (cond b turns []) ≡ flatOf F number allowance t ds ws flat
@@ -140,9 +145,6 @@ module _ {A : Type 0} {F : Arithmetic A} {number allowance : ℕ} {t : List A} {
       })
       ∙ by-test true h
     where
-      same-queues : queuesOf cut flat ≡ qs
-      same-queues = ap (λ (c : List Waiting). queuesOf c flat) (i .parts) ∙ queues-cut ws flat
-
       same-turns : beside (turnOf F t share) number ds (queuesOf cut flat) ≡ turns
       same-turns = ap (beside (turnOf F t share) number ds) same-queues
 

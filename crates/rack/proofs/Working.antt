@@ -24,11 +24,15 @@ use Rattle.rack.proofs.Parts.{over-drop, over-get, over-lent, more-long
 pub length-queues : {A : Type 0} (ws : List Waiting) (flat : Queue A) → length (queuesOf ws flat) ≡ length ws
 unfolding queuesOf
 length-queues [] flat = refl
-length-queues (w ∷ ws) flat = ap suc (length-queues ws (pastOf w flat))
+length-queues (w ∷ ws) flat = ap suc (length-queues ws _)
 
 queues-cons : {A : Type 0} (w : Waiting) (ws : List Waiting) (flat : Queue A) → queuesOf (w ∷ ws) flat ≡ frontOf w flat ∷ queuesOf ws (pastOf w flat)
 unfolding queuesOf
 queues-cons w ws flat = refl
+
+-- what the logic reads past the end of a list of queues
+abbrev pub none : {A : Type 0} → Queue A
+none = record { mpx = []; pilot = []; sum = []; difference = [] }
 
 -- what lies past a in each list
 abbrev pub beyond : {A : Type 0} → ℕ → Queue A → Queue A
@@ -41,9 +45,9 @@ pub record Inside {A : Type 0} (a : ℕ) (q : Queue A) : Type 0 where
   pub sum : a ≤ length (q .sum)
   pub difference : a ≤ length (q .difference)
 
--- a block on the first n samples of a queue
-abbrev blockOn : {A : Type 0} → Arithmetic A → List A → Pll A → ℕ → Queue A → Blocked A
-blockOn F t d n q = blockOf F d t (take n (q .mpx)) (take n (q .pilot)) (take n (q .sum)) (take n (q .difference))
+-- what f makes of a record and of the first n samples of a queue, as a block does
+abbrev pub of-first : {A B : Type 0} → (Pll A → List A → List A → List A → List A → B) → Pll A → ℕ → Queue A → B
+of-first f d n q = f d (take n (q .mpx)) (take n (q .pilot)) (take n (q .sum)) (take n (q .difference))
 
 module _ {A : Type 0} (F : Arithmetic A) (share : ℕ) (t : List A) (ds₀ : List (Pll A)) (parts : List Waiting) (flat : Queue A) where
   abbrev turns : ℕ → List (Turned A)
@@ -170,12 +174,10 @@ module _ {A : Type 0} {F : Arithmetic A} {number share : ℕ} {t : List A} {ds�
           ∙ ap (λ (l : List (Queue A)). getD l 0 q) queues-here
 
       -- what was lent of the four lists, as they are by now
-      abbrev lent : Queue A
+      abbrev pub lent : Queue A
       lent = record { mpx = drop a (flat .mpx); pilot = drop a (flat .pilot); sum = drop a ys; difference = drop a zs }
 
-      module _ (d : Pll A) (hd : k < length ds₀) (n : ℕ) (en : n ≡ min share m) {s : Said} {vy vz : List A} {p : Pll A}
-          (b : record { said = s; sum = vy; difference = vz; pll = p } ≡ blockOn F t (getD ds k d) (a + n - a) lent)
-          (ly : length vy ≡ length (take (a + n - a) (drop a ys))) (lz : length vz ≡ length (take (a + n - a) (drop a zs))) where
+      module _ (d : Pll A) (hd : k < length ds₀) (n : ℕ) (en : n ≡ min share m) where
         n-part : a + n - a ≡ n
         n-part = omega arith
 
@@ -203,96 +205,98 @@ module _ {A : Type 0} {F : Arithmetic A} {number share : ℕ} {t : List A} {ds�
         took : min share (length (take m (drop a (flat .mpx)))) ≡ n
         took = ap (min share) (length-take-le m (drop a (flat .mpx)) (alike .in-mpx)) ∙ sym en
 
-        -- its turn, and what that leaves
         abbrev own : Queue A
         own = frontOf w (beyond a flat)
 
-        abbrev after : Turned A
-        after = record {
-          taken = n;
-          sum = over vy (take m (drop a (flat .sum)));
-          difference = over vz (take m (drop a (flat .difference)));
-          pll = p;
-        }
-
-        same-block : blockOn F t (getD ds₀ k d) n own ≡ record { said = s; sum = vy; difference = vz; pll = p }
-        same-block =
-            (λ j. blockOf F (sym same-decoder j) t (cut (drop a (flat .mpx)) m refl j) (cut (drop a (flat .pilot)) (w .pilot) (alike .pilot) j)
+        -- what is made of the record and of what was lent is what is made of its own queue
+        pub taken-is : {B : Type 0} (f : Pll A → List A → List A → List A → List A → B) (q : Queue A)
+            → let o = getD (queuesOf parts flat) k q in of-first f (getD ds₀ k d) (min share (length (o .mpx))) o ≡ of-first f (getD ds k d) (a + n - a) lent
+        taken-is f q =
+            ap (λ (o : Queue A). of-first f (getD ds₀ k d) (min share (length (o .mpx))) o) (queue-is q)
+            ∙ ap (λ (z : ℕ). of-first f (getD ds₀ k d) z own) took
+            ∙ (λ j. f (sym same-decoder j) (cut (drop a (flat .mpx)) m refl j) (cut (drop a (flat .pilot)) (w .pilot) (alike .pilot) j)
             ((cut (drop a (flat .sum)) (w .sum) (alike .sum) ∙ ap (take (a + n - a)) (sym same-sum)) j)
             ((cut (drop a (flat .difference)) (w .difference) (alike .difference) ∙ ap (take (a + n - a)) (sym same-difference)) j))
-            ∙ sym b
 
-        turn-is : (q : Queue A) → turnOf F t share (getD ds₀ k d) (getD (queuesOf parts flat) k q) ≡ after
-        unfolding turnOf
-        turn-is q =
-            ap (turnOf F t share (getD ds₀ k d)) (queue-is q)
-            ∙ ap (λ (z : ℕ). of z (blockOn F t (getD ds₀ k d) z own)) took
-            ∙ ap (of n) same-block
-            ∙ (λ j. record {
-              taken = n;
-              sum = over vy (take (alike .sum j) (drop a (flat .sum)));
-              difference = over vz (take (alike .difference j) (drop a (flat .difference)));
-              pll = p;
-            })
-          where
-            of : ℕ → Blocked A → Turned A
-            of z o = record { taken = z; sum = over (o .sum) (own .sum); difference = over (o .difference) (own .difference); pll = o .pll }
+        -- its block left this
+        module _ {s : Said} {vy vz : List A} {p : Pll A}
+            (b : record { said = s; sum = vy; difference = vz; pll = p } ≡ of-first (λ r. blockOf F r t) (getD ds k d) (a + n - a) lent)
+            (ly : length vy ≡ length (take (a + n - a) (drop a ys))) (lz : length vz ≡ length (take (a + n - a) (drop a zs))) where
+          abbrev after : Turned A
+          after = record {
+            taken = n;
+            sum = over vy (take m (drop a (flat .sum)));
+            difference = over vz (take m (drop a (flat .difference)));
+            pll = p;
+          }
 
-        turns-next : (q : Queue A) → turns F share t ds₀ parts flat (k + 1) ≡ turns F share t ds₀ parts flat k ++ (after ∷ [])
-        turns-next q =
-            ap (turns F share t ds₀ parts flat) (add-one k)
-            ∙ beside-more (turnOf F t share) k ds₀ (queuesOf parts flat) d q hd (omega (arith, length-queues parts flat))
-            ∙ ap (λ (u : Turned A). turns F share t ds₀ parts flat k ++ (u ∷ [])) (turn-is q)
+          turn-is : (q : Queue A) → turnOf F t share (getD ds₀ k d) (getD (queuesOf parts flat) k q) ≡ after
+          unfolding turnOf
+          turn-is q =
+              ap (of (getD (queuesOf parts flat) k q)) (taken-is (λ r. blockOf F r t) q ∙ sym b)
+              ∙ ap (λ (o : Queue A). of o (record { said = s; sum = vy; difference = vz; pll = p })) (queue-is q)
+              ∙ (λ j. record {
+                taken = took j;
+                sum = over vy (take (alike .sum j) (drop a (flat .sum)));
+                difference = over vz (take (alike .difference j) (drop a (flat .difference)));
+                pll = p;
+              })
+            where
+              of : Queue A → Blocked A → Turned A
+              of o e = record { taken = min share (length (o .mpx)); sum = over (e .sum) (o .sum); difference = over (e .difference) (o .difference); pll = e .pll }
 
-        none : Queue A
-        none = record { mpx = []; pilot = []; sum = []; difference = [] }
+          turns-next : (q : Queue A) → turns F share t ds₀ parts flat (k + 1) ≡ turns F share t ds₀ parts flat k ++ (after ∷ [])
+          turns-next q =
+              ap (turns F share t ds₀ parts flat) (add-one k)
+              ∙ beside-more (turnOf F t share) k ds₀ (queuesOf parts flat) d q hd (omega (arith, length-queues parts flat))
+              ∙ ap (λ (u : Turned A). turns F share t ds₀ parts flat k ++ (u ∷ [])) (turn-is q)
 
-        signal-next : (f : Turned A → List A) → joined (map f (turns F share t ds₀ parts flat (k + 1))) ≡ joined (map f (turns F share t ds₀ parts flat k)) ++ f after
-        signal-next f =
-            ap (λ (l : List (Turned A)). joined (map f l)) (turns-next none)
-            ∙ ap joined (map-append f (turns F share t ds₀ parts flat k) (after ∷ []))
-            ∙ joined-more (map f (turns F share t ds₀ parts flat k)) (f after)
+          signal-next : (f : Turned A → List A) → joined (map f (turns F share t ds₀ parts flat (k + 1))) ≡ joined (map f (turns F share t ds₀ parts flat k)) ++ f after
+          signal-next f =
+              ap (λ (l : List (Turned A)). joined (map f l)) (turns-next none)
+              ∙ ap joined (map-append f (turns F share t ds₀ parts flat k) (after ∷ []))
+              ∙ joined-more (map f (turns F share t ds₀ parts flat k)) (f after)
 
-        -- a flat output with the part that came back
-        came : (u l out v : List A) → out ≡ over u l → length u ≡ a → length v ≡ length (take (a + n - a) (drop a out)) → a ≤ length l → m ≤ length (drop a l)
-            → (take a out ++ (v ++ drop (a + n - a) (drop a out)) ≡ over (u ++ over v (take m (drop a l))) l) × (length (u ++ over v (take m (drop a l))) ≡ a + m)
-        came u l out v eo eu ev ha hm =
-            let lv : length v ≡ n =
-            ev
-            ∙ ap length (ap (λ (z : ℕ). take z (drop a out)) n-part ∙ ap (take n) (ap (drop a) eo ∙ over-drop u l a eu))
-            ∙ length-take-le n (drop a l) (omega (arith, small)) in (
-              (λ j. take a (eo j) ++ (v ++ drop (n-part j) (drop a (eo j)))) ∙ over-lent u v l a n m eu lv small hm,
-              more-long u v l a n m eu lv small hm,
-            )
+          -- a flat output with the part that came back
+          came : (u l out v : List A) → out ≡ over u l → length u ≡ a → length v ≡ length (take (a + n - a) (drop a out)) → a ≤ length l → m ≤ length (drop a l)
+              → (take a out ++ (v ++ drop (a + n - a) (drop a out)) ≡ over (u ++ over v (take m (drop a l))) l) × (length (u ++ over v (take m (drop a l))) ≡ a + m)
+          came u l out v eo eu ev ha hm =
+              let lv : length v ≡ n =
+              ev
+              ∙ ap length (ap (λ (z : ℕ). take z (drop a out)) n-part ∙ ap (take n) (ap (drop a) eo ∙ over-drop u l a eu))
+              ∙ length-take-le n (drop a l) (omega (arith, small)) in (
+                (λ j. take a (eo j) ++ (v ++ drop (n-part j) (drop a (eo j)))) ∙ over-lent u v l a n m eu lv small hm,
+                more-long u v l a n m eu lv small hm,
+              )
 
-        -- the flat output after it
-        abbrev put : List A → List A → List A
-        put out v = take a out ++ (v ++ drop (a + n - a) (drop a out))
+          -- the flat output after it
+          abbrev put : List A → List A → List A
+          put out v = take a out ++ (v ++ drop (a + n - a) (drop a out))
 
-        pub working-next : Working F share t ds₀ parts flat number (k + 1) (a + m) (put ys vy) (put zs vz) (set ds k p)
-        working-next =
-            let y = came (sums F share t ds₀ parts flat k) (flat .sum) ys vy (i .sum) (i .sum-long) ly (i .inside .sum) (alike .in-sum) in
-            let z =
-            came (differences F share t ds₀ parts flat k) (flat .difference) zs vz (i .difference) (i .difference-long) lz (i .inside .difference)
-            (alike .in-difference)
-            in
-            let es = signal-next (λ u. u .sum) in
-            let ed = signal-next (λ u. u .difference) in
-            record {
-              upto = omega arith;
-              inside = room;
-              agreed = rw (← rest-is) (agreed-next number k parts (waitingOf (beyond a flat)) w₀ hn hp (i .agreed) .1);
-              queues = queues-next;
-              sum-long = ap length es ∙ y .1;
-              difference-long = ap length ed ∙ z .1;
-              sum = y .0 ∙ ap (λ (l : List A). over l (flat .sum)) (sym es);
-              difference = z .0 ∙ ap (λ (l : List A). over l (flat .difference)) (sym ed);
-              decoders =
-                  ap (λ (l : List (Pll A)). set l k p) (i .decoders)
-                  ∙ over-set (plls F share t ds₀ parts flat k) ds₀ p k done hd
-                  ∙ ap (λ (l : List (Pll A)). over l ds₀) (sym decoders-next);
-            }
-          where
-            decoders-next : plls F share t ds₀ parts flat (k + 1) ≡ plls F share t ds₀ parts flat k ++ (p ∷ [])
-            decoders-next =
-                ap (map (λ u. u .pll)) (turns-next none) ∙ map-append (λ u. u .pll) (turns F share t ds₀ parts flat k) (after ∷ [])
+          pub working-next : Working F share t ds₀ parts flat number (k + 1) (a + m) (put ys vy) (put zs vz) (set ds k p)
+          working-next =
+              let y = came (sums F share t ds₀ parts flat k) (flat .sum) ys vy (i .sum) (i .sum-long) ly (i .inside .sum) (alike .in-sum) in
+              let z =
+              came (differences F share t ds₀ parts flat k) (flat .difference) zs vz (i .difference) (i .difference-long) lz (i .inside .difference)
+              (alike .in-difference)
+              in
+              let es = signal-next (λ u. u .sum) in
+              let ed = signal-next (λ u. u .difference) in
+              record {
+                upto = omega arith;
+                inside = room;
+                agreed = rw (← rest-is) (agreed-next number k parts (waitingOf (beyond a flat)) w₀ hn hp (i .agreed) .1);
+                queues = queues-next;
+                sum-long = ap length es ∙ y .1;
+                difference-long = ap length ed ∙ z .1;
+                sum = y .0 ∙ ap (λ (l : List A). over l (flat .sum)) (sym es);
+                difference = z .0 ∙ ap (λ (l : List A). over l (flat .difference)) (sym ed);
+                decoders =
+                    ap (λ (l : List (Pll A)). set l k p) (i .decoders)
+                    ∙ over-set (plls F share t ds₀ parts flat k) ds₀ p k done hd
+                    ∙ ap (λ (l : List (Pll A)). over l ds₀) (sym decoders-next);
+              }
+            where
+              decoders-next : plls F share t ds₀ parts flat (k + 1) ≡ plls F share t ds₀ parts flat k ++ (p ∷ [])
+              decoders-next =
+                  ap (map (λ u. u .pll)) (turns-next none) ∙ map-append (λ u. u .pll) (turns F share t ds₀ parts flat k) (after ∷ [])

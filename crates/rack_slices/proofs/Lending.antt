@@ -13,9 +13,9 @@ use Rattle.rack_waiting.specs.declared.Waiting.{Waiting}
 use Rattle.rack_waiting.specs.Agreed.{Even}
 use Rattle.rack_waiting.proofs.Loops.{map-set}
 use Rattle.rack.specs.Round.{Queue, waitingOf, turnOf}
-use Rattle.rack_slices.specs.Slices.{addressesOf, Slices, queuesAt, workedOf}
+use Rattle.rack_slices.specs.Slices.{addressesOf, Slices, queueAt, queuesAt, workedOf}
 use Rattle.rack_slices.proofs.Places.{there, is-there, as-many}
-use Rattle.rack_slices.proofs.Working.{waits-at, even-queue, Working, working-start, sum-kept, difference-kept, working-end, working-as, same-sum, same-difference, working-next, working-past}
+use Rattle.rack_slices.proofs.Working.{waits-at, even-queue, Working, working-start, sum-kept, difference-kept, working-end, working-as, same-sum, same-difference, turned-is, working-next, working-past}
 
 -- what the logic reads past the end of a list of slices, and of an array of lengths
 abbrev pub empty : {A : Type 0} → RefT (List A)
@@ -60,13 +60,13 @@ module _ {A D : Type 0} {F : Arithmetic A} {pll : D → Pll A} {share : ℕ} {t 
 
     -- the decoder at k
     module _ (h : k < number) where
-      place : k < 8
+      pub place : k < 8
       place = omega (arith, i .eight)
 
       here : k < length (map pll ds₀)
       here = omega (arith, place, i .places, length-map ds₀ pll)
 
-      wait : getD ws k nothing .mpx ≡ length (getD (s .mpx) k [])
+      pub wait : getD ws k nothing .mpx ≡ length (getD (s .mpx) k [])
       wait = ap (λ v. v .mpx) (waits-at s number k ws nothing h place (i .waits))
 
       -- nothing waits for it
@@ -106,7 +106,7 @@ module _ {A D : Type 0} {F : Arithmetic A} {pll : D → Pll A} {share : ℕ} {t 
         in-difference = omega (arith, is-there now z₀ k (omega (arith, some, alike .2)), differences-kept)
 
         -- its slices as they stand
-        abbrev lent : Queue A
+        abbrev pub lent : Queue A
         lent = record { mpx = now (getD x k empty); pilot = now (getD p k empty); sum = now (getD y k empty); difference = now (getD z k empty) }
 
         lent-is : lent ≡ record { mpx = getD (s .mpx) k []; pilot = getD (s .pilot) k []; sum = getD (map now y) k []; difference = getD (map now z) k [] }
@@ -125,6 +125,10 @@ module _ {A D : Type 0} {F : Arithmetic A} {pll : D → Pll A} {share : ℕ} {t 
               ap (λ (q : Queue A). length (q .difference)) lent-is ∙ ap length (same-difference (i .working) h place here) ∙ alike .2 ∙ sym x-long,
             )
 
+        -- what is made of its record and its slices as they stand
+        pub lent-own : {B : Type 0} (f : Pll A → Queue A → B) (d : D) → f (pll (getD ds k d)) lent ≡ f (getD (map pll ds₀) k (pll d)) (queueAt s k)
+        lent-own f d = turned-is (i .working) h place here f (pll d) (List·getD-map pll ds k d) lent-is
+
         -- it has its turn
         pub lending-next : (d r : D) (vy vz : RefT (List A)) {y′ z′ : List (RefT (List A))} {ds′ : List D}
             → record { taken = min share (length (lent .mpx)); sum = now vy; difference = now vz; pll = pll r } ≡ turnOf F t share (pll (getD ds k d)) lent
@@ -137,7 +141,7 @@ module _ {A D : Type 0} {F : Arithmetic A} {pll : D → Pll A} {share : ℕ} {t 
           even = i .even;
           waits = i .waits;
           working = working-as
-              (working-next (i .working) h place here (pll d) lent (List·getD-map pll ds k d) lent-is e)
+              (working-next (i .working) h place here (pll d) (e ∙ lent-own (turnOf F t share) d))
               (ap (map now) ey ∙ map-set now y k vy)
               (ap (map now) ez ∙ map-set now z k vz)
               (ap (map pll) ed ∙ map-set pll ds k r);

@@ -46,11 +46,13 @@ module _ {A : Type 0} {F : Arithmetic A} {number allowance : ℕ} {t : List A} {
     decoders = over (map (λ u. u .pll) us) ds;
   }
 
+  -- the answer by the queues
+  pub answer-is : a ≡ roundSays number allowance (length t) (map (F .fit) ds) (map waitingOf (queuesAt s))
+  answer-is = i .answer ∙ (λ j. roundSays number allowance (length t) (i .fit j) (i .waits j))
+
   by-answer : after a (kept a turns []) ≡ slicesOf F number allowance t ds s
   unfolding slicesOf roundOf
-  by-answer =
-      ap (λ (z : Said). after z (kept z turns []))
-      (i .answer ∙ (λ j. roundSays number allowance (length t) (i .fit j) (i .waits j)))
+  by-answer = ap (λ (z : Said). after z (kept z turns [])) answer-is
 
   -- by the outcome of the test
   by-test : (b : Bool) → accepts a ≡ b → after a (cond b turns []) ≡ slicesOf F number allowance t ds s

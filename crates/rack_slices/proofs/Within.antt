@@ -1,6 +1,5 @@
 -- Slices with new ones in place of the first, over the element type. Assumes nothing.
-use Prim.Native.Nat.{ℕ, zero, suc, _<_}
-use native.Mathlib.Omega.{arith}
+use Prim.Native.Nat.{ℕ, zero, suc}
 use mathlib.Core.Path.{_≡_, refl, sym, ap, _∙_}
 use mathlib.Core.List.{List, [], _∷_, _++_, map, map-append, append-nil}
 use lib.ListN.{length, getD, set}
@@ -9,16 +8,6 @@ use Rattle.answers.specs.Samples.{samples}
 use Rattle.answers.proofs.Passes.{length-samples}
 use Rattle.rack_waiting.specs.Beside.{over}
 use Rattle.rack_slices.specs.Slices.{within}
-
--- the element that stands there, of any list
-pub over-same : {B : Type 0} (u l : List B) (z : B) (k : ℕ) → length u ≡ k → k < length l → over (u ++ (getD l k z ∷ [])) l ≡ over u l
-over-same {B} u l z k e h = ap (λ (n : ℕ). over (u ++ (getD l n z ∷ [])) l) (sym e) ∙ at u l (omega (arith, e))
-  where
-    at : (u l : List B) → length u < length l → over (u ++ (getD l (length u) z ∷ [])) l ≡ over u l
-    at [] [] h = absurd (omega arith)
-    at [] (b ∷ l) h = refl
-    at (a ∷ u) [] h = absurd (omega arith)
-    at (a ∷ u) (b ∷ l) h = ap (λ (m : List B). a ∷ m) (at u l (omega arith))
 
 pub map-samples : {B C : Type 0} (f : B → C) (n : ℕ) (g : ℕ → B) → map f (samples n g) ≡ samples n (λ k. f (g k))
 unfolding samples

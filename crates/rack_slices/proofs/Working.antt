@@ -12,13 +12,13 @@ use Rattle.decoder.specs.Machine.{Arithmetic}
 use Rattle.rack_waiting.specs.declared.Waiting.{Waiting}
 use Rattle.rack_waiting.specs.Beside.{beside, over}
 use Rattle.rack_waiting.specs.Agreed.{Even}
-use Rattle.rack_waiting.proofs.Beside.{beside-more, length-beside, over-set}
+use Rattle.rack_waiting.proofs.Beside.{beside-more, length-beside, over-set, over-same}
 use Rattle.rack_waiting.proofs.Agreement.{even-at}
 use Rattle.rack.specs.Round.{Queue, waitingOf, Turned, turnOf}
 use Rattle.rack.proofs.Parts.{over-get}
 use Rattle.rack_slices.specs.Slices.{Slices, queueAt, queuesAt, within, workedOf}
 use Rattle.rack_slices.proofs.Turns.{turn-none}
-use Rattle.rack_slices.proofs.Within.{map-samples, within-none, within-length, within-get, within-set, within-same, over-same}
+use Rattle.rack_slices.proofs.Within.{map-samples, within-none, within-length, within-get, within-set, within-same}
 
 -- what waits for the decoder at k, by the lengths of all
 module _ {A : Type 0} (s : Slices A) (number k : ℕ) (ws : List Waiting) (w : Waiting) (hn : k < number) (h8 : k < 8) (e : ws ≡ map waitingOf (queuesAt s)) where
@@ -120,23 +120,27 @@ module _ {A : Type 0} {F : Arithmetic A} {number share : ℕ} {t : List A} {ds�
           decoders = ed ∙ ap (λ (l : List (Pll A)). over l ds₀) (next (λ u. u .pll));
         }
 
-      -- it has its turn, on its slices as they stand
-      pub working-next : (d : Pll A) (q : Queue A) {p : Pll A} {o : Turned A}
+      -- what is made of its record and its slices as they stand is what is made of those that it came with
+      pub turned-is : {B : Type 0} (f : Pll A → Queue A → B) (d : Pll A) {p : Pll A} {q : Queue A}
           → getD ds k d ≡ p
           → q ≡ record { mpx = getD (s .mpx) k []; pilot = getD (s .pilot) k []; sum = getD ys k []; difference = getD zs k [] }
-          → o ≡ turnOf F t share p q
+          → f p q ≡ f (getD ds₀ k d) (queueAt s k)
+      turned-is f d ep eq = λ j. f ((sym ep ∙ same-decoder d) j) ((eq ∙ here) j)
+        where
+          here : record { mpx = getD (s .mpx) k []; pilot = getD (s .pilot) k []; sum = getD ys k []; difference = getD zs k [] } ≡ queueAt s k
+          here = λ j. record { mpx = getD (s .mpx) k []; pilot = getD (s .pilot) k []; sum = same-sum j; difference = same-difference j }
+
+      -- it has its turn
+      pub working-next : (d : Pll A) {o : Turned A} → o ≡ turnOf F t share (getD ds₀ k d) (queueAt s k)
           → Working F share t ds₀ s number (k + 1) (set ys k (o .sum)) (set zs k (o .difference)) (set ds k (o .pll))
-      working-next d q {o = o} ep eq eo =
-          after d o (sym (eo ∙ (λ j. turnOf F t share ((sym ep ∙ same-decoder d) j) ((eq ∙ here) j))))
+      working-next d {o} e =
+          after d o (sym e)
           (ap (λ (l : List (List A)). set l k (o .sum)) (i .sum)
           ∙ within-set (sums F share t ds₀ s k) (s .sum) (o .sum) k (long (λ u. u .sum)))
           (ap (λ (l : List (List A)). set l k (o .difference)) (i .difference)
           ∙ within-set (differences F share t ds₀ s k) (s .difference) (o .difference) k (long (λ u. u .difference)))
           (ap (λ (l : List (Pll A)). set l k (o .pll)) (i .decoders)
           ∙ over-set (plls F share t ds₀ s k) ds₀ (o .pll) k (long (λ u. u .pll)) hd)
-        where
-          here : record { mpx = getD (s .mpx) k []; pilot = getD (s .pilot) k []; sum = getD ys k []; difference = getD zs k [] } ≡ queueAt s k
-          here = λ j. record { mpx = getD (s .mpx) k []; pilot = getD (s .pilot) k []; sum = same-sum j; difference = same-difference j }
 
       -- nothing waits for it
       pub working-past : (d : Pll A) → length (getD (s .mpx) k []) ≡ 0 → Working F share t ds₀ s number (k + 1) ys zs ds

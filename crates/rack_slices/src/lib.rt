@@ -1,6 +1,7 @@
 // A rack of two to eight f32 decoders that have slices of their own, for a program whose receivers have
 // buffers of their own.
 use answers::answer::is_accepted;
+use counted::wide_of;
 use decoder_record::pll_f32::StereoPllF32;
 use rack::RoundF32;
 use rack_waiting::Waiting;
@@ -10,12 +11,14 @@ use rack_waiting::taken;
 ghost use mathlib.Core.Path.{_≡_};
 ghost use mathlib.Core.List.{map};
 ghost use Prim.Native.Nat.{_≤_, min};
-ghost use lib.ListN.{length};
+ghost use lib.ListN.{length, replicate};
 ghost use Rattle.answers.specs.Answer.{says};
 ghost use Rattle.decoder_record.specs.Records.{pllF32};
 ghost use Rattle.decoder.specs.F32.{f32};
 ghost use Rattle.rack_waiting.specs.Agreed.{Even};
+ghost use Rattle.rack_waiting.specs.Beside.{beside, over};
 ghost use Rattle.rack.specs.Round.{waitingOf, turnOf};
+ghost use Rattle.rack.specs.Wide.{turnWide, roundWide};
 ghost use Rattle.rack_slices.specs.Slices.{addressesOf, queuesAt, workedOf, slicesOf};
 
 // How long the slices of each decoder are; one that is not there counts as empty.
@@ -63,6 +66,18 @@ fn lengths(
     waiting
 }
 
+// A decoder after its turn, and how many of its corrections took the wide way.
+struct TurnF32 {
+    decoder: StereoPllF32,
+    wide: usize,
+}
+
+// The decoders after their turns, and how many corrections of each took the wide way.
+struct WorkF32 {
+    decoders: [StereoPllF32; 8],
+    wide: [usize; 8],
+}
+
 // One decoder's turn, with slices that are equally long.
 fn turn(
     d: StereoPllF32,
@@ -72,7 +87,7 @@ fn turn(
     pilot: &[f32],
     sum: &mut [f32],
     difference: &mut [f32],
-) -> StereoPllF32
+) -> TurnF32
     requires { ⌜ (length (now pilot) ≡ length (now mpx))
         × (length (now sum) ≡ length (now mpx))
         × (length (now difference) ≡ length (now mpx)) ⌝ }
@@ -80,9 +95,15 @@ fn turn(
       taken = min share (length (now (mpx .entry)));
       sum = now (sum .exit);
       difference = now (difference .exit);
-      pll = pllF32 r;
+      pll = pllF32 (r .decoder);
     }
         ≡ turnOf f32 (now (table .entry)) share (pllF32 d) (record {
+          mpx = now (mpx .entry);
+          pilot = now (pilot .entry);
+          sum = now (sum .entry);
+          difference = now (difference .entry);
+        }) ⌝
+        ∗ ⌜ r .wide ≡ turnWide (now (table .entry)) share (pllF32 d) (record {
           mpx = now (mpx .entry);
           pilot = now (pilot .entry);
           sum = now (sum .entry);
@@ -90,7 +111,7 @@ fn turn(
         }) ⌝ }
 {
     let n = least(share, mpx.len());
-    let reply = decoder::fast::block(
+    let reply = decoder_fast::block(
         d,
         table,
         &mpx[0..n],
@@ -98,7 +119,12 @@ fn turn(
         &mut sum[0..n],
         &mut difference[0..n],
     );
-    reply.decoder
+    let decoder = reply.decoder;
+    let answer = reply.answer;
+    TurnF32 {
+        decoder,
+        wide: wide_of(answer),
+    }
 }
 
 // The first decoders in order. One for which nothing waits may have no slices.
@@ -112,7 +138,7 @@ fn work(
     pilot: &[&[f32]],
     sum: &mut [&mut [f32]],
     difference: &mut [&mut [f32]],
-) -> [StereoPllF32; 8]
+) -> WorkF32
     requires { ⌜ number ≤ 8 ⌝ ∗ ⌜ Even number waiting ⌝
         ∗ ⌜ waiting ≡ map waitingOf (queuesAt (record {
           mpx = map now (now mpx);
@@ -123,7 +149,7 @@ fn work(
     ensures { λ r. ⌜ (record {
       sum = map now (now (sum .exit));
       difference = map now (now (difference .exit));
-      decoders = map pllF32 r;
+      decoders = map pllF32 (r .decoders);
     }
         ≡ workedOf f32 number (now (table .entry)) share (map pllF32 decoders) (record {
           mpx = map now (now (mpx .entry));
@@ -132,9 +158,17 @@ fn work(
           difference = map now (now (difference .entry));
         }))
         × (addressesOf (now (sum .exit)) ≡ addressesOf (now (sum .entry)))
-        × (addressesOf (now (difference .exit)) ≡ addressesOf (now (difference .entry))) ⌝ }
+        × (addressesOf (now (difference .exit)) ≡ addressesOf (now (difference .entry))) ⌝
+        ∗ ⌜ r .wide ≡ over (beside (turnWide (now (table .entry)) share) number (map pllF32 decoders)
+        (queuesAt (record {
+          mpx = map now (now (mpx .entry));
+          pilot = map now (now (pilot .entry));
+          sum = map now (now (sum .entry));
+          difference = map now (now (difference .entry));
+        }))) (replicate 8 0) ⌝ }
 {
     let mut next = decoders;
+    let mut wide = [0usize; 8];
     let mut k = 0usize;
     while k < number {
         let w = waiting[k];
@@ -142,12 +176,17 @@ fn work(
             let d = next[k];
             let x = mpx[k];
             let p = pilot[k];
-            let after = turn(d, share, table, x, p, sum[k], difference[k]);
+            let turned = turn(d, share, table, x, p, sum[k], difference[k]);
+            let after = turned.decoder;
             next[k] = after;
+            wide[k] = turned.wide;
         }
         k += 1;
     }
-    next
+    WorkF32 {
+        decoders: next,
+        wide,
+    }
 }
 
 // A round: 21, 22, or the earliest decoder's refusal, and nothing is touched; else every decoder takes its
@@ -176,7 +215,14 @@ pub fn round(
           difference = map now (now (difference .entry));
         }))
         × (addressesOf (now (sum .exit)) ≡ addressesOf (now (sum .entry)))
-        × (addressesOf (now (difference .exit)) ≡ addressesOf (now (difference .entry))) ⌝ }
+        × (addressesOf (now (difference .exit)) ≡ addressesOf (now (difference .entry))) ⌝
+        ∗ ⌜ r .wide ≡ roundWide number allowance (now (table .entry)) (map pllF32 decoders)
+        (queuesAt (record {
+          mpx = map now (now (mpx .entry));
+          pilot = map now (now (pilot .entry));
+          sum = map now (now (sum .entry));
+          difference = map now (now (difference .entry));
+        })) ⌝ }
 {
     let waiting = lengths(mpx, pilot, sum, difference);
     let answer = round_answer(number, allowance, table.len(), [true; 8], waiting);
@@ -184,11 +230,12 @@ pub fn round(
         return RoundF32 {
             answer,
             taken: [0; 8],
+            wide: [0; 8],
             decoders,
         };
     }
     let share = allowance as usize / number;
-    let next = work(
+    let worked = work(
         decoders,
         number,
         share,
@@ -199,9 +246,12 @@ pub fn round(
         sum,
         difference,
     );
+    let wide = worked.wide;
+    let next = worked.decoders;
     RoundF32 {
         answer,
         taken: taken(number, share, waiting),
+        wide,
         decoders: next,
     }
 }

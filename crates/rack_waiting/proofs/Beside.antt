@@ -57,3 +57,13 @@ module _ {A : Type 0} where
     where
       long : (n : ℕ) → n ≡ k → length (u ++ (x ∷ [])) ≡ suc k
       long n q = omega (arith, length-append u (x ∷ []), e)
+
+  -- .. which is the one that stands there
+  pub over-same : (u l : List A) (z : A) (k : ℕ) → length u ≡ k → k < length l → over (u ++ (getD l k z ∷ [])) l ≡ over u l
+  over-same u l z k e h = ap (λ (n : ℕ). over (u ++ (getD l n z ∷ [])) l) (sym e) ∙ at u l (omega (arith, e))
+    where
+      at : (u l : List A) → length u < length l → over (u ++ (getD l (length u) z ∷ [])) l ≡ over u l
+      at [] [] h = absurd (omega arith)
+      at [] (b ∷ l) h = refl
+      at (a ∷ u) [] h = absurd (omega arith)
+      at (a ∷ u) (b ∷ l) h = ap (λ (m : List A). a ∷ m) (at u l (omega arith))

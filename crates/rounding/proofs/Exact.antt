@@ -1,19 +1,18 @@
 -- A sum is exact where a float of the format has its exact value. `Worth x z c` says that x is finite and is z
 -- / c, of either sign. Over the format. Assumes nothing.
-use Prim.Native.Nat.{ℕ, zero, suc, _+_, _-_, _*_, _<_}
+use Prim.Native.Nat.{ℕ, zero, suc, _+_, _*_, _<_}
 use mathlib.Core.Path.{_≡_, refl, sym, ap, _∙_, subst}
 use mathlib.Core.Bool.{Bool, true, false, not, cond}
 use native.Mathlib.Nat.{zero-lt-suc, zero-mul, mul-assoc, mul-pos}
 use native.Mathlib.Omega.{arith}
-use borrow.Author.Tests.{ltb-true, ltb-false}
-use lib.Dec.{T, ltb}
+use lib.Dec.{T}
 use lib.IntN.{ℤ, pos, negsuc, negℤ, natAbs, _+ℤ_, _-ℤ_, _*ℤ_, negℤ-negℤ}
 use lib.Ieee.{Float, nan, inf, fin, Format, up as over, down, round, sum, add, neg, sub, fits}
 use lib.Ieee.Fits.{down-pos}
 use lib.Ieee.Exact.{HasValue}
 use lib.Ieee.Scale.{finite}
 use Rattle.rounding.proofs.Lin.{up, dn, add-law, up-neg, dn-neg, abs-mul, abs-negℤ, eq-in}
-use Rattle.rounding.proofs.Value.{sum-same, add-at, neg-value}
+use Rattle.rounding.proofs.Value.{part, sum-ways, sum-same, add-at, neg-value}
 use Rattle.rounding.proofs.Own.{own-exact}
 use Rattle.rounding.proofs.Finite.{round-zero}
 
@@ -29,9 +28,9 @@ pub record Worth (x : Float) (z : ℤ) (c : ℕ) : Type 0 where
   pub is : signed minus size ≡ z
 
 -- ---- ±a
-parts : (s : Bool) (a : ℕ) → (up (signed s a) ≡ cond s 0 a) × (dn (signed s a) ≡ cond s a 0)
-parts true a = (up-neg (pos a), dn-neg (pos a))
-parts false a = (refl, refl)
+parts : (s : Bool) (a : ℕ) → (up (signed s a) ≡ part false s a) × (dn (signed s a) ≡ part true s a)
+parts true a = omega (arith, up-neg (pos a), dn-neg (pos a))
+parts false a = omega arith
 
 size-is : (s : Bool) (a : ℕ) → natAbs (signed s a) ≡ a
 size-is true a = abs-negℤ (pos a)
@@ -46,9 +45,10 @@ scaled true zero k = rw (zero-mul k)
 scaled true (suc a) k = refl
 scaled false a k = refl
 
--- a sum, by the parts above and below 0
-total : (q s t : Bool) (k a b : ℕ) → cond q 0 k + (cond s a 0 + cond t b 0) ≡ cond s 0 a + cond t 0 b + cond q k 0 → signed q k ≡ signed s a +ℤ signed t b
-total q s t k a b h = eq-in (signed q k) (signed s a +ℤ signed t b) (omega (arith, add-law (signed s a) (signed t b), parts q k, parts s a, parts t b))
+-- a sum, by the parts of either sign
+total : (q s t : Bool) (k a b : ℕ) → k + (part (not q) s a + part (not q) t b) ≡ part q s a + part q t b → signed q k ≡ signed s a +ℤ signed t b
+total true s t k a b h = eq-in (signed true k) (signed s a +ℤ signed t b) (omega (arith, add-law (signed s a) (signed t b), parts true k, parts s a, parts t b))
+total false s t k a b h = eq-in (signed false k) (signed s a +ℤ signed t b) (omega (arith, add-law (signed s a) (signed t b), parts s a, parts t b))
 
 -- only 0 has two signs
 one-sign : (q r : Bool) (k n : ℕ) → signed q (suc k) ≡ signed r n → (r ≡ q) × (n ≡ suc k)
@@ -88,24 +88,6 @@ neg-worth {x} {z} {c} w =
     record { minus = not w.minus; size = w.size; value = neg-value x w.minus w.size c w.value; is = turned w.minus w.size ∙ ap negℤ w.is }
 
 -- ---- sums
--- `sum` rounds the exact sum
-sum-ways : (P : Float → Type 0) (f : Format) (s : Bool) (a : ℕ) (t : Bool) (b c : ℕ)
-    → ((q : Bool) (k : ℕ) → signed q k ≡ signed s a +ℤ signed t b → P (round f q k c)) → P (sum f s a t b c)
-unfolding sum
-sum-ways P f true a true b c p = p true (a + b) (total true true true (a + b) a b (omega arith))
-sum-ways P f false a false b c p = p false (a + b) refl
-sum-ways P f true a false b c p = by (ltb a b) refl (ltb b a) refl
-  where
-    by : (u : Bool) → ltb a b ≡ u → (w : Bool) → ltb b a ≡ w → P (cond u (round f false (b - a) c) (round f w (a - b) c))
-    by true e w d = p false (b - a) (total false true false (b - a) a b (omega (arith, ltb-true a b e)))
-    by false e true d = p true (a - b) (total true true false (a - b) a b (omega (arith, ltb-true b a d)))
-    by false e false d = p false (a - b) (total false true false (a - b) a b (omega (arith, ltb-false a b e, ltb-false b a d)))
-sum-ways P f false a true b c p = by (ltb a b) refl
-  where
-    by : (u : Bool) → ltb a b ≡ u → P (cond u (round f true (b - a) c) (round f false (a - b) c))
-    by true e = p true (b - a) (total true false true (b - a) a b (omega (arith, ltb-true a b e)))
-    by false e = p false (a - b) (total false false true (a - b) a b (omega (arith, ltb-false a b e)))
-
 value-finite : (x : Float) (s : Bool) (a c : ℕ) → HasValue x s a c → T (finite x)
 value-finite nan s a c v = v
 value-finite (inf t) s a c v = v
@@ -123,7 +105,7 @@ module _ (f : Format) (c : ℕ) (C : 0 < c) (l : Float) (L : ℤ) (held : T (fit
   add-exact {x} {y} u v e =
       subst (λ (z : Float). Worth z L c) (sym at)
       (sum-ways (λ (z : Float). Worth z L c) f u.minus u.size v.minus v.size c
-      (λ q k d. let i : signed q k ≡ L = d ∙ cc (u.is, v.is, e) in record { minus = q; size = k; value = round-held q k i; is = i }))
+      (λ q k d. let i : signed q k ≡ L = total q u.minus v.minus k u.size v.size d ∙ cc (u.is, v.is, e) in record { minus = q; size = k; value = round-held q k i; is = i }))
     where
       at : add f x y ≡ sum f u.minus u.size v.minus v.size c
       at =

@@ -36,7 +36,7 @@ module _ {A : Type 0} (F : Arithmetic A) (unsigned : A → Bool) (d : Pll A) (s 
   module _ {fit : Bool} (ef : fit ≡ summaryFit F unsigned s) {b a : Said} (eb : b ≡ own)
       (ea : a ≡ callSays fit (s .counts) b (length mpx) (length (c .stereo)) (length (c .mono)) (length (c .changes)) (length (c .magnitude)))
       {ok : Bool} (k : ok ≡ accepts a) where
-    says-is : a ≡ summarySays F unsigned s own (length mpx) c
+    pub says-is : a ≡ summarySays F unsigned s own (length mpx) c
     says-is =
         ea
         ∙ ap (λ (f : Bool). callSays f (s .counts) b (length mpx) (length (c .stereo)) (length (c .mono)) (length (c .changes)) (length (c .magnitude))) ef

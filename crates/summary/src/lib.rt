@@ -1,9 +1,9 @@
 // A summary beside the pairs in f32: the fast block's samples, each with its part of the summary.
-use answers::answer::Answer;
 use answers::answer::ENTRIES;
 use answers::answer::is_accepted;
-use decoder::fast::step_checked;
+use counted::Counted;
 use decoder::lengths::block_lengths;
+use decoder_fast::checked::step_checked;
 use decoder_record::pll_f32::StereoPllF32;
 use summary_counts::counted;
 use summary_counts::is_full;
@@ -14,17 +14,21 @@ use summary_record::in_f32::larger;
 ghost use mathlib.Core.Path.{_≡_};
 ghost use mathlib.Core.Bool.{true};
 ghost use lib.ListN.{length};
-ghost use Rattle.answers.specs.Answer.{says, entries};
+ghost use Rattle.phase.specs.Correction.{isWide};
+ghost use Rattle.answers.specs.Answer.{entries};
+ghost use Rattle.counted.specs.Counted.{count, saidIn, countIn};
 ghost use Rattle.decoder.specs.F32.{f32};
 ghost use Rattle.decoder_record.specs.Records.{pllF32};
+ghost use Rattle.decoder_fast.specs.Wide.{wideUpTo};
 ghost use Rattle.summary_counts.specs.Counts.{endingOf};
 ghost use Rattle.summary.specs.Summary.{summaryRun, summaryOf};
+ghost use Rattle.summary.specs.Wide.{summaryCount};
 ghost use Rattle.summary_record.specs.Record.{summaryFit};
 ghost use Rattle.summary_record.specs.F32.{unsignedF32, summaryF32};
 
 // A decoder and a summary after a block, and the answer.
 pub struct SummarizedF32 {
-    pub answer: Answer,
+    pub answer: Counted,
     pub decoder: StereoPllF32,
     pub summary: SummaryF32,
 }
@@ -60,7 +64,7 @@ fn run(
         × (length (now magnitudes) ≡ endingOf (s .counts) (length (now mpx))) ⌝
         ∗ ⌜ summaryFit f32 unsignedF32 (summaryF32 s) ≡ true ⌝ }
     ensures { λ r. ⌜ record {
-      said = says (r .answer);
+      said = saidIn (r .answer);
       sum = now (sum .exit);
       difference = now (difference .exit);
       columns = record {
@@ -72,11 +76,14 @@ fn run(
       pll = pllF32 (r .decoder);
       summary = summaryF32 (r .summary);
     }
-        ≡ summaryRun f32 (pllF32 d) (summaryF32 s) (now (table .entry)) (now (mpx .entry)) (now (pilot .entry)) ⌝ }
+        ≡ summaryRun f32 (pllF32 d) (summaryF32 s) (now (table .entry)) (now (mpx .entry)) (now (pilot .entry)) ⌝
+        ∗ ⌜ countIn (r .answer) ≡ count (wideUpTo f32 isWide (now (table .entry)) (now (mpx .entry)) (now (pilot .entry))
+        (pllF32 d) (length (now (mpx .entry)))) ⌝ }
 {
     let mut st = d;
     let mut counts = s.counts;
     let mut magnitude = s.magnitude;
+    let mut wide = 0usize;
     let mut k = 0usize;
     let mut i = 0usize;
     while i < mpx.len() {
@@ -86,6 +93,7 @@ fn run(
         sum[i] = x;
         difference[i] = o.difference;
         st = o.next;
+        wide += o.wide as usize;
         counts = counted(counts, st.stereo);
         magnitude = larger(magnitude, o.difference);
         if is_full(counts) {
@@ -100,7 +108,7 @@ fn run(
         i += 1;
     }
     SummarizedF32 {
-        answer: Answer::Accepted,
+        answer: Counted::Accepted(wide),
         decoder: st,
         summary: SummaryF32 { counts, magnitude },
     }
@@ -121,7 +129,7 @@ pub fn block(
     magnitudes: &mut [f32],
 ) -> SummarizedF32
     ensures { λ r. ⌜ record {
-      said = says (r .answer);
+      said = saidIn (r .answer);
       sum = now (sum .exit);
       difference = now (difference .exit);
       columns = record {
@@ -135,6 +143,14 @@ pub fn block(
     }
         ≡ summaryOf f32 unsignedF32 (pllF32 d) (summaryF32 s) (now (table .entry)) (now (mpx .entry)) (now (pilot .entry))
         (now (sum .entry)) (now (difference .entry))
+        (record {
+          stereo = now (stereos .entry);
+          mono = now (monos .entry);
+          changes = now (changes .entry);
+          magnitude = now (magnitudes .entry);
+        }) ⌝
+        ∗ ⌜ countIn (r .answer) ≡ summaryCount (pllF32 d) (summaryF32 s) (now (table .entry)) (now (mpx .entry))
+        (now (pilot .entry)) (now (sum .entry)) (now (difference .entry))
         (record {
           stereo = now (stereos .entry);
           mono = now (monos .entry);
@@ -161,7 +177,7 @@ pub fn block(
     );
     if !is_accepted(answer) {
         return SummarizedF32 {
-            answer,
+            answer: Counted::Refused(answer),
             decoder: d,
             summary: s,
         };

@@ -8,7 +8,9 @@ use crate::show::refused;
 use crate::show::said;
 use crate::show::sample;
 use crate::show::signed;
+use counted::answer_of;
 use decoder::parts::ReplyF32;
+use decoder_fast::FastReply;
 use decoder_q15::parts::ReplyQ15;
 use decoder_record::pll_f32::NewF32;
 use decoder_record::pll_f32::StereoPllF32;
@@ -109,6 +111,16 @@ fn record_q15(kp: i64) -> StereoPllQ15 {
     }
 }
 
+// A fast block's reply without its count, as a plain one's is.
+pub(crate) fn uncounted(r: FastReply) -> ReplyF32 {
+    let a = r.answer;
+    let decoder = r.decoder;
+    ReplyF32 {
+        answer: answer_of(a),
+        decoder,
+    }
+}
+
 fn shown_f32(r: ReplyF32) {
     let a = r.answer;
     said(a);
@@ -139,7 +151,7 @@ fn block_f32(
 ) {
     label(name);
     shown_f32(decoder::plain::block(d, table, mpx, pilot, sum, difference));
-    shown_f32(decoder::fast::block(d, table, mpx, pilot, sum, difference));
+    shown_f32(uncounted(decoder_fast::block(d, table, mpx, pilot, sum, difference)));
     done();
 }
 

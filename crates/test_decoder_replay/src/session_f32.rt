@@ -4,7 +4,9 @@ use crate::names;
 use crate::words12;
 use answers::answer::Answer;
 use answers::answer::is_accepted;
+use counted::answer_of;
 use decoder::parts::ReplyF32;
+use decoder_fast::FastReply;
 use decoder_record::pll_f32::NewF32;
 use decoder_record::pll_f32::StereoPllF32;
 use test_lines::words::f32_of;
@@ -141,6 +143,16 @@ fn pilot(d: StereoPllF32, w: &[u64; 17], table: &[f32]) -> [f32; 80] {
     out
 }
 
+// A fast block's reply without its count, as a plain one's is.
+fn uncounted(r: FastReply) -> ReplyF32 {
+    let a = r.answer;
+    let decoder = r.decoder;
+    ReplyF32 {
+        answer: answer_of(a),
+        decoder,
+    }
+}
+
 // A block, plain or fast. Only the fast way has a merged one; the plain way takes the matrix after.
 fn either(
     fast: bool,
@@ -156,9 +168,9 @@ fn either(
         return decoder::plain::block(d, table, mpx, pilot, sum, difference);
     }
     if merged {
-        return merged::in_f32::block(d, table, mpx, pilot, sum, difference);
+        return uncounted(merged::in_f32::block(d, table, mpx, pilot, sum, difference));
     }
-    decoder::fast::block(d, table, mpx, pilot, sum, difference)
+    uncounted(decoder_fast::block(d, table, mpx, pilot, sum, difference))
 }
 
 // The plain way's merged block: the matrix of an accepted plain block's outputs, of n samples.

@@ -1,6 +1,7 @@
 // The cases: refusals and their order, then what accepted rounds take and leave.
 use crate::round::Asked;
 use crate::round::Both;
+use crate::round::count;
 use crate::round::first;
 use crate::round::run;
 use crate::start;
@@ -167,7 +168,7 @@ pub(crate) fn by_share(ones: &[f32], tops: &[i16]) {
         4294967295,
     );
     let b = Both {
-        f: start::rack_f32(),
+        f: start::rack_f32(b""),
         q: start::rack_q15(b""),
     };
     let one = run(b, b"5 and 1 wait", b"55551111", ones, tops, asked(2, 5));
@@ -198,4 +199,58 @@ pub(crate) fn by_part(ones: &[f32], tops: &[i16]) {
     none.sum = 0;
     none.difference = 0;
     first(b"empty slices", b"", b"333333333333", ones, tops, none);
+}
+
+fn counts(name: &[u8], marks: &[u8], text: &[u8], ones: &[f32], number: usize, allowance: u32) {
+    count(
+        start::rack_f32(marks),
+        name,
+        text,
+        ones,
+        asked(number, allowance),
+    );
+}
+
+// How many corrections of each decoder took the wide way.
+pub(crate) fn by_wide(ones: &[f32]) {
+    counts(
+        b"wide second of three",
+        b"qwp",
+        b"555555555555",
+        ones,
+        3,
+        15,
+    );
+    counts(
+        b"wide first, fourth and eighth",
+        b"w  v   i",
+        b"22222222222222222222222222222222",
+        ones,
+        8,
+        16,
+    );
+    counts(b"wide by share", b"www", b"444444444444", ones, 3, 4);
+    counts(
+        b"wide past the number",
+        b"iiii",
+        b"2222222222222222",
+        ones,
+        2,
+        4,
+    );
+    counts(b"wide, nothing waits", b"iii", b"222200002222", ones, 3, 6);
+    counts(b"wide, second pilot", b"ii", b"22222322", ones, 2, 6);
+    counts(b"wide, number 1", b"ii", b"22222222", ones, 1, 6);
+    let one = count(
+        start::rack_f32(b" i"),
+        b"wide, first round",
+        b"11115555",
+        ones,
+        asked(2, 6),
+    );
+    let refused = count(one, b"wide, refused round", b"11115555", ones, asked(2, 1));
+    let mut c = asked(2, 6);
+    c.from = 4;
+    let two = count(refused, b"wide, second round", b"00002222", ones, c);
+    count(two, b"wide, third round", b"22220000", ones, asked(2, 6));
 }

@@ -1,6 +1,6 @@
-// Runs rounds of racks: each refusal, the order of the causes, parts, shares, and rounds one after the
-// other. What each has to write stands in the file stdout; it was worked out from document 02, request 6,
-// and not from what this program wrote.
+// Runs rounds of racks: each refusal, the order of the causes, parts, shares, rounds one after the other,
+// and the counts of wide corrections. What each has to write stands in the file stdout; it was worked out
+// from document 02, requests 6 and 7, and not from what this program wrote.
 
 mod cases;
 mod round;
@@ -13,6 +13,7 @@ fn all(ones: &[f32], tops: &[i16]) {
     cases::by_length(ones, tops);
     cases::by_share(ones, tops);
     cases::by_part(ones, tops);
+    cases::by_wide(ones);
 }
 
 fn main() {

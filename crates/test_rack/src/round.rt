@@ -4,6 +4,7 @@ use crate::show;
 use crate::start;
 use decoder_record::pll_f32::StereoPllF32;
 use decoder_record_q15::pll_q15::StereoPllQ15;
+use rack::RoundF32;
 use rack_waiting::least;
 ghost use Prim.Native.Nat.{_≤_};
 
@@ -41,7 +42,7 @@ fn lent_f32(
     mpxs: &[f32; 24],
     pilots: &[f32; 24],
     c: Asked,
-) -> [StereoPllF32; 8] {
+) -> RoundF32 {
     let mpx: &[f32] = mpxs;
     let pilot: &[f32] = pilots;
     let mut sum = [-1.0f32; 24];
@@ -67,14 +68,14 @@ fn lent_f32(
     let counts = r.taken;
     let next = r.decoders;
     show::said(said);
-    show::taken(counts);
+    show::counts(b" taken", counts);
     show::decoders_f32(next);
     show::output_f32(b" sum", &sum);
     show::output_f32(b" difference", &difference);
-    next
+    r
 }
 
-fn run_f32(decoders: [StereoPllF32; 8], text: &[u8], ones: &[f32], c: Asked) -> [StereoPllF32; 8] {
+fn run_f32(decoders: [StereoPllF32; 8], text: &[u8], ones: &[f32], c: Asked) -> RoundF32 {
     let mut mpx = [0.0f32; 24];
     let mut pilot = [0.0f32; 24];
     start::samples_f32(&mut mpx, &mut pilot);
@@ -115,7 +116,7 @@ fn lent_q15(
     let counts = r.taken;
     let next = r.decoders;
     show::said(said);
-    show::taken(counts);
+    show::counts(b" taken", counts);
     show::decoders_q15(next);
     show::output_q15(b" sum", &sum);
     show::output_q15(b" difference", &difference);
@@ -136,7 +137,8 @@ pub(crate) fn run(b: Both, name: &[u8], text: &[u8], ones: &[f32], tops: &[i16],
     let e = b.q;
     show::label(name);
     show::label(b" f32");
-    let f = run_f32(d, text, ones, c);
+    let r = run_f32(d, text, ones, c);
+    let f = r.decoders;
     show::label(b"\n");
     show::label(name);
     show::label(b" Q15");
@@ -145,10 +147,27 @@ pub(crate) fn run(b: Both, name: &[u8], text: &[u8], ones: &[f32], tops: &[i16],
     Both { f, q }
 }
 
+// A line for f32 alone, which ends with how many corrections of each decoder took the wide way.
+pub(crate) fn count(
+    decoders: [StereoPllF32; 8],
+    name: &[u8],
+    text: &[u8],
+    ones: &[f32],
+    c: Asked,
+) -> [StereoPllF32; 8] {
+    show::label(name);
+    show::label(b" f32");
+    let r = run_f32(decoders, text, ones, c);
+    let wide = r.wide;
+    show::counts(b" wide", wide);
+    show::label(b"\n");
+    r.decoders
+}
+
 // The first round of a rack, whose decoders with a u are unfit.
 pub(crate) fn first(name: &[u8], marks: &[u8], text: &[u8], ones: &[f32], tops: &[i16], c: Asked) {
     let b = Both {
-        f: start::rack_f32(),
+        f: start::rack_f32(b""),
         q: start::rack_q15(marks),
     };
     run(b, name, text, ones, tops, c);

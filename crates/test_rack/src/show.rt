@@ -27,12 +27,12 @@ pub(crate) fn said(a: Answer) {
     number(c.got as u64);
 }
 
-// How many samples each decoder took.
-pub(crate) fn taken(counts: [usize; 8]) {
-    label(b" taken");
+// One number for each decoder.
+pub(crate) fn counts(name: &[u8], all: [usize; 8]) {
+    label(name);
     let mut k = 0usize;
     while k < 8 {
-        number(counts[k] as u64);
+        number(all[k] as u64);
         k += 1;
     }
 }

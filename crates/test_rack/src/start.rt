@@ -43,9 +43,22 @@ pub(crate) fn waiting(text: &[u8]) -> [Waiting; 8] {
     all
 }
 
-fn decoder_f32(phase: u32) -> StereoPllF32 {
+// A gain by its letter. At a pilot of 1 it is f, by which the correction goes, and at a pilot of 0 f is 0, but
+// for an infinite gain, where it is a NaN. f is wide for w, v and i, and quick for q and p.
+fn gain(mark: u8) -> f32 {
+    match mark {
+        b'w' => 524288.0,
+        b'v' => -524288.0625,
+        b'i' => 1.0 / 0.0,
+        b'q' => -524288.0,
+        b'p' => 524287.96875,
+        _ => 0.0,
+    }
+}
+
+fn decoder_f32(phase: u32, mark: u8) -> StereoPllF32 {
     StereoPllF32 {
-        kp: 0.0,
+        kp: gain(mark),
         ki: 0.0,
         imax: 1.0,
         beta: 1.0,
@@ -60,14 +73,14 @@ fn decoder_f32(phase: u32) -> StereoPllF32 {
     }
 }
 
-// Decoders with different phases.
-pub(crate) fn rack_f32() -> [StereoPllF32; 8] {
-    let first = decoder_f32(0);
+// Decoders with different phases, and with the gains of the text's letters.
+pub(crate) fn rack_f32(marks: &[u8]) -> [StereoPllF32; 8] {
+    let first = decoder_f32(0, b' ');
     let mut all = [first; 8];
     let mut k = 0usize;
     let mut phase = 0u32;
     while k < 8 {
-        let d = decoder_f32(phase);
+        let d = decoder_f32(phase, letter(marks, k));
         all[k] = d;
         phase = std::num::wrapping_add_u32(phase, 1000);
         k += 1;

@@ -189,7 +189,7 @@ fn of_phase(cos: &[f32], cos_q15: &[i16], x: Case) -> u64 {
             words::word_u32(phase::correction::correction_plain(words::f32_of(x.a)))
         }
         names::CORRECTION_FAST => {
-            words::word_u32(phase::correction::correction_fast(words::f32_of(x.a)))
+            words::word_u32(phase::correction::correction_fast(words::f32_of(x.a)).step)
         }
         names::INCREMENT_FOR => increment_for(words::f64_of(x.a), words::f64_of(x.b)),
         _ => advance(words::u32_of(x.a), words::u32_of(x.b), x.c),

@@ -1,6 +1,7 @@
 // A call in both formats, and what it leaves. Each output has seven places, which hold 9 before,
 // and of which a part is lent; all are shown.
 use crate::show;
+use counted::answer_of;
 use summary::SummarizedF32;
 use summary_q15::SummarizedQ15;
 use test_lines::words::f32_of;
@@ -94,7 +95,7 @@ fn fill_q15(script: &[u8], pilot: &mut [i16; 7], mpx: &mut [i16; 7]) {
 
 fn left_f32(r: SummarizedF32) {
     let a = r.answer;
-    show::said(a);
+    show::said(answer_of(a));
     let d = r.decoder;
     show::label(b" decoder");
     show::count(d.phase);

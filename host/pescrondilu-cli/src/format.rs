@@ -1,5 +1,6 @@
 //! The core's two formats, and the way between them and f32.
 
+use pescrondilu::kernels::stereo::StereoPllState;
 use pescrondilu::{Q15, RealSample};
 
 /// f32 or Q15.
@@ -15,6 +16,8 @@ pub trait Format: RealSample {
     fn to_f32(self) -> f32;
     /// A sample of the multiplex for the core, with the headroom.
     fn multiplex(value: f32) -> Self;
+    /// How many phase corrections of the last block left the quick path; Q15 has one path only.
+    fn wide(pll: &StereoPllState<Self>) -> usize;
 }
 
 impl Format for f32 {
@@ -31,6 +34,10 @@ impl Format for f32 {
 
     fn multiplex(value: f32) -> f32 {
         value
+    }
+
+    fn wide(pll: &StereoPllState<f32>) -> usize {
+        pll.wide_corrections()
     }
 }
 
@@ -49,6 +56,10 @@ impl Format for Q15 {
     /// It saturates where `from_f32` does, so that an infinity is full scale here too.
     fn multiplex(value: f32) -> Q15 {
         Q15::from_f32(value.clamp(-1.0, 1.0) / Self::HEADROOM)
+    }
+
+    fn wide(_: &StereoPllState<Q15>) -> usize {
+        0
     }
 }
 

@@ -54,7 +54,9 @@ near 48 kHz. All times are those of the capture: the filters add no delay. A NaN
 capture is passed on and is gone after the filters' length; with de-emphasis the audio stays where
 it was until then. The report counts them, and says when the last one stood in the pilot. The
 integer core takes a NaN for 0, limits the capture to full deviation, and works at a quarter of it,
-so that left and right are not limited before their low-pass.
+so that left and right are not limited before their low-pass. Of the floating-point core the report
+tells how many phase corrections left the quick path, where any did: samples far above full
+deviation make them.
 
 The report says whether the pilot is within ITU-R BS.450: 18998 to 19002 Hz and an amplitude of 0.08
 to 0.1 of full deviation. The frequency is by the capture's own clock, and an error of that clock of

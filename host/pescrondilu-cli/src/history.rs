@@ -113,6 +113,8 @@ pub struct Totals {
     pub bad_pilot: u64,
     /// The last pilot sample that is NaN or infinite.
     pub last_bad_pilot: Option<u64>,
+    /// Phase corrections that left the quick path.
+    pub wide: u64,
     /// Highest level; 0 where there was none above.
     pub highest: f64,
     /// The lamp and the level at the end.
@@ -136,6 +138,7 @@ impl Totals {
         self.bad_pilot += sight.bad_pilot as u64;
         let last = sight.last_bad_pilot.map(|at| before + at as u64);
         self.last_bad_pilot = last.or(self.last_bad_pilot);
+        self.wide += sight.wide as u64;
         // `max` passes over a NaN
         self.highest = self.highest.max(sight.level);
         self.nan_since = self
@@ -251,6 +254,7 @@ mod tests {
             bad,
             bad_pilot: 2 * bad,
             last_bad_pilot: (bad > 0).then_some(7),
+            wide: bad / 2,
             figures: None,
         }
     }
@@ -279,7 +283,7 @@ mod tests {
             (totals.samples, totals.stereo_samples, totals.changes),
             (40, 20, 2)
         );
-        assert_eq!((totals.highest, totals.bad), (0.03, 4));
+        assert_eq!((totals.highest, totals.bad, totals.wide), (0.03, 4, 2));
         assert_eq!(history.finish(), None);
     }
 

@@ -54,6 +54,8 @@ pub struct Sight {
     pub bad_pilot: usize,
     /// The last of these, counted from the block's first sample.
     pub last_bad_pilot: Option<usize>,
+    /// Phase corrections that left the quick path.
+    pub wide: usize,
     /// Of the period of the log that this block ended.
     pub figures: Option<Figures>,
 }
@@ -217,6 +219,7 @@ impl<T: Format> Receiver<T> {
                 bad: not_finite(&self.waiting[from..to]),
                 bad_pilot: last_bad_pilot.map_or(0, |last| not_finite(&pilot[from..=from + last])),
                 last_bad_pilot,
+                wide: T::wide(&self.pll),
                 figures,
             })?;
             self.done += (to - from) as u64;
@@ -422,6 +425,23 @@ mod tests {
         }
         receiver.finish(&mut see, &mut audio).unwrap();
         (*history.totals(), receiver.band.half())
+    }
+
+    /// The band-pass spreads one large sample, and each of these moves the phase by many turns.
+    #[test]
+    fn corrections_off_the_quick_path_are_counted() {
+        let mut mpx = vec![0.25; 5_001];
+        for piece in [1, 100, 5_001] {
+            assert_eq!(seen::<f32>(&mpx, piece).0.wide, 0);
+        }
+        mpx[2_000] = 1e20;
+        let (totals, half) = seen::<f32>(&mpx, 5_001);
+        let spread = half as u64..=2 * half as u64 + 1;
+        assert!(spread.contains(&totals.wide), "{} {half}", totals.wide);
+        for piece in [1, 100] {
+            assert_eq!(seen::<f32>(&mpx, piece).0.wide, totals.wide);
+        }
+        assert_eq!(seen::<Q15>(&mpx, 100).0.wide, 0);
     }
 
     #[test]

@@ -2,7 +2,7 @@
 
 use std::fmt::Write;
 
-use crate::history::{History, MOST_CHANGES};
+use crate::history::{History, MOST_CHANGES, Totals};
 use crate::log::lamp;
 use crate::receiver::{INTEGRATOR_LIMIT_HZ, PILOT_HZ};
 use crate::verdict::{USUAL_AMPLITUDE, number, pilot_words};
@@ -45,6 +45,9 @@ impl Report<'_> {
         entry("level", self.level());
         if let Some(words) = self.not_finite() {
             entry("not finite", words);
+        }
+        if let Some(words) = self.wide() {
+            entry("loop", words);
         }
         if let Some(words) = &self.complaint {
             entry("file", words.clone());
@@ -152,6 +155,13 @@ impl Report<'_> {
         }
         Some(text + "; they move neither level nor lamp")
     }
+
+    /// There is one correction a sample, and with a pilot of ordinary size each takes the quick path.
+    fn wide(&self) -> Option<String> {
+        let Totals { wide, samples, .. } = *self.history.totals();
+        let words = format!("{wide} of {samples} phase corrections left the quick path");
+        (wide > 0).then_some(words)
+    }
 }
 
 /// Three digits that count.
@@ -177,7 +187,7 @@ mod tests {
     ) -> String {
         let mut history = History::new(100);
         for &(level, stereo) in levels {
-            let (samples, bad_pilot) = (100, 3 * bad);
+            let (samples, bad_pilot, wide) = (100, 3 * bad, bad / 5);
             let last_bad_pilot = (bad > 0).then_some(23);
             history.see(Sight {
                 samples,
@@ -187,6 +197,7 @@ mod tests {
                 bad,
                 bad_pilot,
                 last_bad_pilot,
+                wide,
                 figures: None,
             });
         }
@@ -222,7 +233,7 @@ mod tests {
         ] {
             assert!(text.contains(words), "{words} in\n{text}");
         }
-        assert!(!text.contains("not finite"));
+        assert!(!text.contains("not finite") && !text.contains("quick path"));
     }
 
     #[test]
@@ -256,6 +267,17 @@ mod tests {
             text.contains("in Q15 a NaN is 0") && !text.contains("the last at"),
             "{text}"
         );
+    }
+
+    #[test]
+    fn corrections_off_the_quick_path_are_counted() {
+        let text = report(&[(0.03, true)], 5, false);
+        let words = "  loop       1 of 100 phase corrections left the quick path\n";
+        assert!(text.contains(words), "{text}");
+        let text = report(&[(0.03, true), (0.03, true)], 500, false);
+        assert!(text.contains(" 200 of 200 phase corrections"), "{text}");
+        let text = report(&[(0.03, true)], 4, false);
+        assert!(!text.contains("quick path"), "{text}");
     }
 
     #[test]

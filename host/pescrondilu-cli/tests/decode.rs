@@ -220,6 +220,7 @@ fn a_burst_of_nan_passes() {
         let (said, audio) = decode(&folder, &mpx, &["--format", format]);
         let text = said.text();
         assert!(text.contains("1000 samples of the capture"), "{text}");
+        assert_eq!(off_quick_path(&text), None);
         assert!(text.contains("1 change\n"), "still stereo: {text}");
         match format {
             "f32" => the_last_one_is_told(&text, 96_000, 1_000),
@@ -248,6 +249,41 @@ fn the_last_one_is_told(text: &str, first: usize, samples: usize) {
     let last = first + samples - 1 + more / 2;
     let seconds = format!("{:.3} s; they move", last as f64 / f64::from(RATE));
     assert!(rest.starts_with(&seconds), "{seconds} in {text}");
+}
+
+/// How many phase corrections left the quick path, by the report; none where it is silent.
+fn off_quick_path(text: &str) -> Option<u32> {
+    let line = text.lines().find(|line| line.contains("quick path"))?;
+    let words = line.strip_prefix("  loop       ").unwrap();
+    let (count, rest) = words.split_once(' ').unwrap();
+    assert_eq!(rest, "of 192000 phase corrections left the quick path");
+    Some(count.parse().unwrap())
+}
+
+#[test]
+fn a_capture_that_leaves_the_quick_path_is_told() {
+    let folder = Folder::new("quick");
+    let log = folder.file("log.csv");
+    let good = Multiplex::default().make();
+    let mut large = good.clone();
+    large[96_000..96_100].fill(1e20);
+    let first_line = || {
+        let text = fs::read_to_string(&log).unwrap();
+        text.lines().next().unwrap().to_string()
+    };
+    let (said, _) = decode(&folder, &good, &["--log", &log]);
+    assert_eq!(off_quick_path(&said.text()), None);
+    let head = first_line();
+
+    let (said, _) = decode(&folder, &large, &[]);
+    let count = off_quick_path(&said.text()).unwrap();
+    assert!((100..2_000).contains(&count), "{}", said.text());
+    // the log's call counts the same, and its columns stay
+    let (said, _) = decode(&folder, &large, &["--log", &log]);
+    assert_eq!(off_quick_path(&said.text()), Some(count));
+    assert_eq!(first_line(), head);
+    let (said, _) = decode(&folder, &large, &["--format", "q15"]);
+    assert_eq!(off_quick_path(&said.text()), None);
 }
 
 #[test]

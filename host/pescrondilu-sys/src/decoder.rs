@@ -1,5 +1,8 @@
 //! crates/c_decoder and crates/c_merged. A struct that both formats have is one here, over the
-//! format's number V; S is the format's sample.
+//! format's number V; S is the format's sample. W is how many corrections took the wide way, a usize
+//! in what a fast f32 call replies, and `()` elsewhere, where nothing counts them.
+
+use std::fmt::Debug;
 
 use crate::Code;
 
@@ -42,15 +45,37 @@ pub struct Coded<V> {
 layout!(Coded<f32>, 52, code 0, decoder 4);
 layout!(Coded<i64>, 88, code 0, decoder 8);
 
+/// What a block answers, how many of its corrections took the wide way, and the decoder after it.
+/// Where nothing counts them, `wide` takes no room, and C has no such field.
 #[repr(C)]
 #[derive(Clone, Copy, Debug, PartialEq)]
-pub struct Reply<V> {
+pub struct Reply<V, W> {
     pub answer: Code,
+    pub wide: W,
     pub decoder: Decoder<V>,
 }
 
-layout!(Reply<f32>, 72, answer 0, decoder 24);
-layout!(Reply<i64>, 104, answer 0, decoder 24);
+layout!(Reply<f32, usize>, 80, answer 0, wide 24, decoder 32);
+layout!(Reply<f32, ()>, 72, answer 0, decoder 24);
+layout!(Reply<i64, ()>, 104, answer 0, decoder 24);
+
+/// How many corrections took the wide way: a usize, or `()` where nothing counts them.
+pub trait Count: Copy + Debug + PartialEq {
+    /// As C has it: 0 where there is none.
+    fn number(self) -> usize;
+}
+
+impl Count for usize {
+    fn number(self) -> usize {
+        self
+    }
+}
+
+impl Count for () {
+    fn number(self) -> usize {
+        0
+    }
+}
 
 #[repr(C)]
 #[derive(Clone, Copy, Debug, PartialEq)]
@@ -81,7 +106,8 @@ layout!(Scanned, 16, finite 0, read 8);
 type New<V> = extern "C" fn(f64, f64, f64, f64, f64) -> Coded<V>;
 type Set<V> = extern "C" fn(Decoder<V>) -> Decoder<V>;
 type Read<V> = extern "C" fn(Decoder<V>) -> Readout;
-type Block<V, S> = unsafe extern "C" fn(
+/// A block of either way, or a merged one.
+pub type Block<V, S, W> = unsafe extern "C" fn(
     Decoder<V>,
     *const S,
     usize,
@@ -93,34 +119,29 @@ type Block<V, S> = unsafe extern "C" fn(
     usize,
     *mut S,
     usize,
-) -> Reply<V>;
+) -> Reply<V, W>;
 type Matrix<S> =
     unsafe extern "C" fn(*const S, usize, *const S, usize, *mut S, usize, *mut S, usize) -> Code;
 
-/// Which of our two blocks.
-#[derive(Clone, Copy, Debug, PartialEq, Eq)]
-pub enum Way {
-    Plain,
-    Fast,
-}
-
-/// A format by its sample: its number and its functions.
+/// A format by its sample: its number, its count and its functions.
 pub trait Sample: Copy {
     type Value: Copy;
+    /// What a fast call counts: in f32 the wide corrections, in Q15, which has no wide way, nothing.
+    type Wide: Count;
     const NEW: New<Self::Value>;
     const ENABLE: Set<Self::Value>;
     const DISABLE: Set<Self::Value>;
     const RESET: Set<Self::Value>;
     const READ: Read<Self::Value>;
-    const BLOCK: Block<Self::Value, Self>;
-    const PLAIN_BLOCK: Block<Self::Value, Self>;
-    const MERGED_BLOCK: Block<Self::Value, Self>;
+    const BLOCK: Block<Self::Value, Self, Self::Wide>;
+    const PLAIN_BLOCK: Block<Self::Value, Self, ()>;
+    const MERGED_BLOCK: Block<Self::Value, Self, Self::Wide>;
     const MATRIX: Matrix<Self>;
 }
 
 macro_rules! format {
     (
-        $value:ty, $sample:ty, $new:ident, $enable:ident, $disable:ident, $reset:ident,
+        $value:ty, $sample:ty, $wide:ty, $new:ident, $enable:ident, $disable:ident, $reset:ident,
         $read:ident, $block:ident, $plain_block:ident, $merged_block:ident, $matrix:ident
     ) => {
         unsafe extern "C" {
@@ -147,7 +168,7 @@ macro_rules! format {
                 sum_n: usize,
                 difference: *mut $sample,
                 difference_n: usize,
-            ) -> Reply<$value>;
+            ) -> Reply<$value, $wide>;
             pub fn $plain_block(
                 d: Decoder<$value>,
                 table: *const $sample,
@@ -160,7 +181,7 @@ macro_rules! format {
                 sum_n: usize,
                 difference: *mut $sample,
                 difference_n: usize,
-            ) -> Reply<$value>;
+            ) -> Reply<$value, ()>;
             pub fn $merged_block(
                 d: Decoder<$value>,
                 table: *const $sample,
@@ -173,7 +194,7 @@ macro_rules! format {
                 left_n: usize,
                 right: *mut $sample,
                 right_n: usize,
-            ) -> Reply<$value>;
+            ) -> Reply<$value, $wide>;
             pub fn $matrix(
                 sum: *const $sample,
                 sum_n: usize,
@@ -188,14 +209,15 @@ macro_rules! format {
 
         impl Sample for $sample {
             type Value = $value;
+            type Wide = $wide;
             const NEW: New<$value> = $new;
             const ENABLE: Set<$value> = $enable;
             const DISABLE: Set<$value> = $disable;
             const RESET: Set<$value> = $reset;
             const READ: Read<$value> = $read;
-            const BLOCK: Block<$value, $sample> = $block;
-            const PLAIN_BLOCK: Block<$value, $sample> = $plain_block;
-            const MERGED_BLOCK: Block<$value, $sample> = $merged_block;
+            const BLOCK: Block<$value, $sample, $wide> = $block;
+            const PLAIN_BLOCK: Block<$value, $sample, ()> = $plain_block;
+            const MERGED_BLOCK: Block<$value, $sample, $wide> = $merged_block;
             const MATRIX: Matrix<$sample> = $matrix;
         }
     };
@@ -204,6 +226,7 @@ macro_rules! format {
 format!(
     f32,
     f32,
+    usize,
     pescrondilu_f32_new,
     pescrondilu_f32_enable,
     pescrondilu_f32_disable,
@@ -217,6 +240,7 @@ format!(
 format!(
     i64,
     i16,
+    (),
     pescrondilu_q15_new,
     pescrondilu_q15_enable,
     pescrondilu_q15_disable,
@@ -235,22 +259,16 @@ unsafe extern "C" {
 // SAFETY, for each call below: a pointer and a length are those of one slice, and no output
 // overlaps another argument.
 
+/// A block of either way, or a merged one, with its slices.
 #[inline]
-pub fn block<S: Sample>(
-    way: Way,
+fn call<S: Sample, W>(
+    block: Block<S::Value, S, W>,
     d: Decoder<S::Value>,
-    table: &[S],
-    mpx: &[S],
-    pilot: &[S],
-    sum: &mut [S],
-    difference: &mut [S],
-) -> Reply<S::Value> {
-    let call = match way {
-        Way::Plain => S::PLAIN_BLOCK,
-        Way::Fast => S::BLOCK,
-    };
+    [table, mpx, pilot]: [&[S]; 3],
+    [first, second]: [&mut [S]; 2],
+) -> Reply<S::Value, W> {
     unsafe {
-        call(
+        block(
             d,
             table.as_ptr(),
             table.len(),
@@ -258,12 +276,38 @@ pub fn block<S: Sample>(
             mpx.len(),
             pilot.as_ptr(),
             pilot.len(),
-            sum.as_mut_ptr(),
-            sum.len(),
-            difference.as_mut_ptr(),
-            difference.len(),
+            first.as_mut_ptr(),
+            first.len(),
+            second.as_mut_ptr(),
+            second.len(),
         )
     }
+}
+
+/// A block, the fast way.
+#[inline]
+pub fn block<S: Sample>(
+    d: Decoder<S::Value>,
+    table: &[S],
+    mpx: &[S],
+    pilot: &[S],
+    sum: &mut [S],
+    difference: &mut [S],
+) -> Reply<S::Value, S::Wide> {
+    call(S::BLOCK, d, [table, mpx, pilot], [sum, difference])
+}
+
+/// A block, the plain way.
+#[inline]
+pub fn plain_block<S: Sample>(
+    d: Decoder<S::Value>,
+    table: &[S],
+    mpx: &[S],
+    pilot: &[S],
+    sum: &mut [S],
+    difference: &mut [S],
+) -> Reply<S::Value, ()> {
+    call(S::PLAIN_BLOCK, d, [table, mpx, pilot], [sum, difference])
 }
 
 /// Left and right, from the block's sum and difference.
@@ -275,22 +319,8 @@ pub fn merged_block<S: Sample>(
     pilot: &[S],
     left: &mut [S],
     right: &mut [S],
-) -> Reply<S::Value> {
-    unsafe {
-        S::MERGED_BLOCK(
-            d,
-            table.as_ptr(),
-            table.len(),
-            mpx.as_ptr(),
-            mpx.len(),
-            pilot.as_ptr(),
-            pilot.len(),
-            left.as_mut_ptr(),
-            left.len(),
-            right.as_mut_ptr(),
-            right.len(),
-        )
-    }
+) -> Reply<S::Value, S::Wide> {
+    call(S::MERGED_BLOCK, d, [table, mpx, pilot], [left, right])
 }
 
 #[inline]

@@ -18,6 +18,16 @@ pub struct CodedQ14 {
 
 layout!(CodedQ14, 8, code 0, value 4);
 
+/// The fast correction, and whether the quick way served.
+#[repr(C)]
+#[derive(Clone, Copy, Debug, PartialEq, Eq)]
+pub struct Corrected {
+    pub step: u32,
+    pub quick: bool,
+}
+
+layout!(Corrected, 8, step 0, quick 4);
+
 unsafe extern "C" {
     pub safe fn pescrondilu_sat16(x: i64) -> i16;
     pub safe fn pescrondilu_round_shift(x: i64, s: u32) -> i64;
@@ -41,7 +51,8 @@ unsafe extern "C" {
     pub safe fn pescrondilu_q15_from_f64(x: f64) -> i16;
     pub safe fn pescrondilu_q14_from_f64(x: f64) -> CodedQ14;
     pub safe fn pescrondilu_correction_plain(f: f32) -> u32;
-    pub safe fn pescrondilu_correction_fast(f: f32) -> u32;
+    pub safe fn pescrondilu_correction_fast(f: f32) -> Corrected;
+    pub safe fn pescrondilu_quick_serves(v: f64) -> bool;
     pub fn pescrondilu_cos_f32(table: *const f32, n: usize, p: u32) -> f32;
     pub fn pescrondilu_interp_f32_pair(table: *const f32, n: usize, p: u32) -> Pair;
     pub fn pescrondilu_cos_q15(table: *const i16, n: usize, p: u32) -> i16;

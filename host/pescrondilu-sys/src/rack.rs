@@ -1,5 +1,5 @@
 //! crates/c_rack and crates/c_rack_slices: a round of a rack. A struct that both formats have is one
-//! here, over the format's number V or its sample S.
+//! here, over the format's number V or its sample S, and its count of wide corrections W.
 
 use crate::Code;
 use crate::decoder::{Decoder, Sample};
@@ -51,17 +51,19 @@ pub struct Rack<V> {
 layout!(Rack<f32>, 392, decoders 0, number 384);
 layout!(Rack<i64>, 648, decoders 0, number 640);
 
-/// What a round answers, how many samples each decoder took, and the rack after it.
+/// What a round answers, how many samples each decoder took, how many of its corrections took the
+/// wide way, and the rack after it.
 #[repr(C)]
 #[derive(Clone, Copy, Debug, PartialEq)]
-pub struct Round<V> {
+pub struct Round<V, W> {
     pub answer: Code,
     pub taken: [usize; PLACES],
+    pub wide: [W; PLACES],
     pub rack: Rack<V>,
 }
 
-layout!(Round<f32>, 480, answer 0, taken 24, rack 88);
-layout!(Round<i64>, 736, answer 0, taken 24, rack 88);
+layout!(Round<f32, usize>, 544, answer 0, taken 24, wide 88, rack 152);
+layout!(Round<i64, ()>, 736, answer 0, taken 24, rack 88);
 
 /// An input of a list.
 #[repr(C)]
@@ -103,7 +105,7 @@ impl<S> From<&mut [S]> for Output<S> {
     }
 }
 
-type RoundCall<V, S> = unsafe extern "C" fn(
+type RoundCall<V, S, W> = unsafe extern "C" fn(
     Rack<V>,
     u32,
     RackWaiting,
@@ -117,8 +119,8 @@ type RoundCall<V, S> = unsafe extern "C" fn(
     usize,
     *mut S,
     usize,
-) -> Round<V>;
-type SlicesCall<V, S> = unsafe extern "C" fn(
+) -> Round<V, W>;
+type SlicesCall<V, S, W> = unsafe extern "C" fn(
     Rack<V>,
     u32,
     *const S,
@@ -131,16 +133,16 @@ type SlicesCall<V, S> = unsafe extern "C" fn(
     usize,
     *mut Output<S>,
     usize,
-) -> Round<V>;
+) -> Round<V, W>;
 
 /// A format's rounds.
 pub trait Racked: Sample {
-    const RACK_ROUND: RoundCall<Self::Value, Self>;
-    const RACK_ROUND_SLICES: SlicesCall<Self::Value, Self>;
+    const RACK_ROUND: RoundCall<Self::Value, Self, Self::Wide>;
+    const RACK_ROUND_SLICES: SlicesCall<Self::Value, Self, Self::Wide>;
 }
 
 macro_rules! format {
-    ($value:ty, $sample:ty, $round:ident, $slices:ident) => {
+    ($value:ty, $sample:ty, $wide:ty, $round:ident, $slices:ident) => {
         unsafe extern "C" {
             pub fn $round(
                 rack: Rack<$value>,
@@ -156,7 +158,7 @@ macro_rules! format {
                 sum_n: usize,
                 difference: *mut $sample,
                 difference_n: usize,
-            ) -> Round<$value>;
+            ) -> Round<$value, $wide>;
             pub fn $slices(
                 rack: Rack<$value>,
                 allowance: u32,
@@ -170,23 +172,26 @@ macro_rules! format {
                 sum_n: usize,
                 difference: *mut Output<$sample>,
                 difference_n: usize,
-            ) -> Round<$value>;
+            ) -> Round<$value, $wide>;
         }
 
         impl Racked for $sample {
-            const RACK_ROUND: RoundCall<$value, $sample> = $round;
-            const RACK_ROUND_SLICES: SlicesCall<$value, $sample> = $slices;
+            const RACK_ROUND: RoundCall<$value, $sample, $wide> = $round;
+            const RACK_ROUND_SLICES: SlicesCall<$value, $sample, $wide> = $slices;
         }
     };
 }
 
 format!(
     f32,
-    f32, pescrondilu_f32_rack_round, pescrondilu_f32_rack_round_slices
+    f32, usize, pescrondilu_f32_rack_round, pescrondilu_f32_rack_round_slices
 );
 format!(
     i64,
-    i16, pescrondilu_q15_rack_round, pescrondilu_q15_rack_round_slices
+    i16,
+    (),
+    pescrondilu_q15_rack_round,
+    pescrondilu_q15_rack_round_slices
 );
 
 /// A round. Decoder k's part of each slice begins where that of the one before ends.
@@ -201,7 +206,7 @@ pub fn rack_round<S: Racked>(
     pilot: &[S],
     sum: &mut [S],
     difference: &mut [S],
-) -> Round<S::Value> {
+) -> Round<S::Value, S::Wide> {
     // SAFETY: a pointer and a length are those of one slice, and no output overlaps another
     // argument.
     unsafe {
@@ -254,7 +259,7 @@ pub fn rack_round_slices<S: Racked>(
     pilot: &[&[S]],
     sum: &mut [&mut [S]],
     difference: &mut [&mut [S]],
-) -> Round<S::Value> {
+) -> Round<S::Value, S::Wide> {
     let ((mpx, mpx_n), (pilot, pilot_n)) = (inputs(mpx), inputs(pilot));
     let ((mut sum, sum_n), (mut difference, difference_n)) = (outputs(sum), outputs(difference));
     // SAFETY: a pointer and a length are those of one slice, in the lists too, and no output

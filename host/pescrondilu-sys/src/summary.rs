@@ -1,5 +1,5 @@
 //! crates/c_summary: a summary beside the pairs. A struct that both formats have is one here, over
-//! the format's sample S and the decoder's number V.
+//! the format's sample S, the decoder's number V and the count of wide corrections W.
 
 use crate::Code;
 use crate::decoder::{Decoder, Sample};
@@ -20,20 +20,22 @@ pub struct Summary<S> {
 layout!(Summary<f32>, 24, period 0, stereo 4, mono 8, changes 12, magnitude 16, before 20);
 layout!(Summary<i16>, 24, period 0, stereo 4, mono 8, changes 12, magnitude 16, before 20);
 
-/// What a block answers, and the decoder and the summary after it.
+/// What a block answers, how many of its corrections took the wide way, and the decoder and the
+/// summary after it.
 #[repr(C)]
 #[derive(Clone, Copy, Debug, PartialEq)]
-pub struct SummaryReply<V, S> {
+pub struct SummaryReply<V, S, W> {
     pub answer: Code,
+    pub wide: W,
     pub decoder: Decoder<V>,
     pub summary: Summary<S>,
 }
 
-layout!(SummaryReply<f32, f32>, 96, answer 0, decoder 24, summary 72);
-layout!(SummaryReply<i64, i16>, 128, answer 0, decoder 24, summary 104);
+layout!(SummaryReply<f32, f32, usize>, 104, answer 0, wide 24, decoder 32, summary 80);
+layout!(SummaryReply<i64, i16, ()>, 128, answer 0, decoder 24, summary 104);
 
 type New<S> = extern "C" fn(u32) -> Summary<S>;
-type Block<V, S> = unsafe extern "C" fn(
+type Block<V, S, W> = unsafe extern "C" fn(
     Decoder<V>,
     Summary<S>,
     *const S,
@@ -54,16 +56,16 @@ type Block<V, S> = unsafe extern "C" fn(
     usize,
     *mut S,
     usize,
-) -> SummaryReply<V, S>;
+) -> SummaryReply<V, S, W>;
 
 /// A format's summary functions.
 pub trait Summed: Sample {
     const SUMMARY_NEW: New<Self>;
-    const SUMMARY_BLOCK: Block<Self::Value, Self>;
+    const SUMMARY_BLOCK: Block<Self::Value, Self, Self::Wide>;
 }
 
 macro_rules! format {
-    ($value:ty, $sample:ty, $new:ident, $block:ident) => {
+    ($value:ty, $sample:ty, $wide:ty, $new:ident, $block:ident) => {
         unsafe extern "C" {
             pub safe fn $new(period: u32) -> Summary<$sample>;
             pub fn $block(
@@ -87,23 +89,26 @@ macro_rules! format {
                 changes_n: usize,
                 magnitude: *mut $sample,
                 magnitude_n: usize,
-            ) -> SummaryReply<$value, $sample>;
+            ) -> SummaryReply<$value, $sample, $wide>;
         }
 
         impl Summed for $sample {
             const SUMMARY_NEW: New<$sample> = $new;
-            const SUMMARY_BLOCK: Block<$value, $sample> = $block;
+            const SUMMARY_BLOCK: Block<$value, $sample, $wide> = $block;
         }
     };
 }
 
 format!(
     f32,
-    f32, pescrondilu_f32_summary_new, pescrondilu_f32_summary_block
+    f32, usize, pescrondilu_f32_summary_new, pescrondilu_f32_summary_block
 );
 format!(
     i64,
-    i16, pescrondilu_q15_summary_new, pescrondilu_q15_summary_block
+    i16,
+    (),
+    pescrondilu_q15_summary_new,
+    pescrondilu_q15_summary_block
 );
 
 /// A block with its summaries. The last four outputs have as many places as periods end in it.
@@ -121,7 +126,7 @@ pub fn summary_block<S: Summed>(
     mono: &mut [u32],
     changes: &mut [u32],
     magnitude: &mut [S],
-) -> SummaryReply<S::Value, S> {
+) -> SummaryReply<S::Value, S, S::Wide> {
     // SAFETY: a pointer and a length are those of one slice, and no output overlaps another
     // argument.
     unsafe {

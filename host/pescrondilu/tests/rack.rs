@@ -11,7 +11,8 @@ use common::{
 use pescrondilu::kernels::stereo::{
     DecoderRecord, RACK_PLACES, Rack, RackQueue, StereoPllState, Waiting,
 };
-use pescrondilu::{Error, Q15, Refusal, tables};
+use pescrondilu::{Error, Q15, RealSample, Refusal, tables};
+use pescrondilu_sys::decoder::Sample;
 use pescrondilu_sys::rack as sys;
 
 /// What waits for a decoder: multiplex and pilot, equally long.
@@ -834,6 +835,9 @@ fn places_past_the_number_are_not_seen() {
 
 // ---- What the crate's own rack cannot have, by the C names: other numbers, and the places past it
 
+/// What a round of the core replies.
+type Reply<T> = sys::Round<<T as RealSample>::Value, <<T as RealSample>::Raw as Sample>::Wide>;
+
 /// A rack of eight decoders that differ, and this number.
 fn core_rack<T: Format>(number: usize) -> sys::Rack<T::Value> {
     let decoders = rack::<T>(RACK_PLACES);
@@ -858,7 +862,7 @@ fn core_slices<T: Format>(
     own: &mut [Own<T>],
     lists: Lengths,
     table: &[T],
-) -> (sys::Round<T::Value>, [Vec<T>; 2]) {
+) -> (Reply<T>, [Vec<T>; 2]) {
     let (mut mpx, mut pilot, mut sum, mut difference) = (vec![], vec![], vec![], vec![]);
     for queue in own.iter_mut().map(Own::queue) {
         mpx.push(T::raw(queue.mpx));
@@ -888,7 +892,7 @@ fn core_round<T: Format>(
     parts: [Waiting; RACK_PLACES],
     n: usize,
     table: &[T],
-) -> (sys::Round<T::Value>, [Vec<T>; 2]) {
+) -> (Reply<T>, [Vec<T>; 2]) {
     let (mpx, pilot): Queue<T> = queues(&mut Random(77), &[n]).remove(0);
     let [mut sum, mut difference] = [(); 2].map(|()| vec![T::LEFT; n]);
     let waiting = sys::RackWaiting { decoders: parts };
@@ -917,6 +921,7 @@ fn core_round<T: Format>(
     let (other, outputs) = core_slices(rack, allowance, &mut own, [RACK_PLACES; 4], table);
     assert_eq!(other.answer, reply.answer);
     assert_eq!(other.taken, reply.taken);
+    assert_eq!(other.wide, reply.wide);
     assert_eq!(other.rack.number, reply.rack.number);
     assert_eq!(states::<T>(&other.rack), states::<T>(&reply.rack));
     for (here, there) in outputs.iter().zip([&sum, &difference]) {

@@ -2,15 +2,15 @@
 
 use decoder_oracle::answers::{self, Arguments, Block, Call, Format, Outcome, field_words};
 use decoder_oracle::inputs::{self, Drawn};
-use pescrondilu_sys::decoder::Way;
 use sdrk_core::kernels::stereo::StereoPllState;
 use sdrk_core::probe::Fields;
 use sdrk_core::types::Q15;
-use stereo_oracle::answers::{Side, TABLE};
-use stereo_oracle::inputs::Inputs;
+use stereo_oracle::answers::{ACCEPTED, Said, Side, TABLE};
+use stereo_oracle::inputs::{Inputs, one};
 
 use crate::part::Part;
-use crate::record::{Ours, Record};
+use crate::record::{Ours, Record, Way};
+use crate::wide::{self, Counts};
 
 /// What a format adds to a session.
 trait Compared: Ours + Drawn {
@@ -54,6 +54,18 @@ fn difference(expected: &Outcome, got: &Outcome) -> String {
         }
     }
     "nowhere".into()
+}
+
+/// What the fast decoder counts in a call: nothing where it is no block, or refused.
+pub fn counts_of<F: Ours>(
+    before: &StereoPllState<F>,
+    call: &Call<F::Sample>,
+    said: Said,
+) -> Counts {
+    match call.block() {
+        Some(b) if said == ACCEPTED => F::counts(before, &b.table, &b.mpx, &b.pilot),
+        _ => Counts::default(),
+    }
 }
 
 /// Our two decoders and the original's two over one list of calls.
@@ -118,14 +130,21 @@ impl<'a, F: Compared> Session<'a, F> {
     }
 
     fn call(&mut self, call: &Call<F::Sample>) {
+        let before = self.reference;
         let expected = self.expected(call);
+        let counts = counts_of::<F>(&before, call, expected.said);
+        self.part.counts(&counts);
         self.calls += 1;
         for way in [Way::Plain, Way::Fast] {
             let record = match way {
                 Way::Plain => &mut self.plain,
                 Way::Fast => &mut self.fast,
             };
-            let got = record.call(way, call);
+            let (got, wide) = record.call(way, call);
+            let counted = match way {
+                Way::Plain => 0,
+                Way::Fast => counts.wide,
+            };
             self.part.samples += got.outputs.iter().map(|x| x.len() as u64).sum::<u64>();
             self.part.merged += matches!(call, Call::Merged(_)) as u64;
             self.part.said(got.said);
@@ -136,6 +155,10 @@ impl<'a, F: Compared> Session<'a, F> {
                 let text = difference(&expected, &got);
                 self.part
                     .differ(format!("{begun}, call {calls}, {way:?}: {text}"));
+            } else if wide != counted {
+                self.part.differ(format!(
+                    "{begun}, call {calls}: counted {counted}, ours {wide}"
+                ));
             }
         }
     }
@@ -279,6 +302,99 @@ fn near_the_top() -> bool {
     part.report()
 }
 
+/// Decoders that leave the quick path of the correction, or come near to it.
+fn leaving(count: u64) -> bool {
+    let mut r = Inputs::new(18);
+    let mut part = Part::new("wide_blocks");
+    for _ in 0..count {
+        let fields = wide::decoder(&mut r);
+        let mut s = Session::<f32>::new(&mut part, format!("{fields:?}"), fields, 1);
+        for _ in 0..4 + r.below(8) {
+            let b = wide::block(&mut r, &s.fields());
+            s.call(&match r.below(16) {
+                0 => Call::Enable,
+                1 => Call::Disable,
+                2 => Call::Reset,
+                3..=8 => Call::Merged(b),
+                _ => Call::Block(b),
+            });
+        }
+    }
+    part.reached();
+    part.report()
+}
+
+/// A number in -1..=1, often at an end.
+fn within(r: &mut Inputs) -> f32 {
+    match r.below(3) {
+        0 => one(r, &[1.0, -1.0, 0.0, -0.0]),
+        _ => (r.below(1 << 25) as f32 - 16777216.0) / 16777216.0,
+    }
+}
+
+/// A constructed decoder whose kp + imax, added in f32, is at most 262144, often just so.
+fn moderate(r: &mut Inputs) -> (Arguments, Record<f32>) {
+    loop {
+        let a = inputs::good_arguments(r);
+        let (_, usual) = Record::<f32>::construct(a);
+        let kp = match r.below(2) {
+            0 => 262144.0 - r.below(64) as f64 / 64.0,
+            _ => f64::powi(2.0, r.below(30) as i32 - 12),
+        };
+        // kp goes as 1 / level
+        let level = a.level * usual.0.kp as f64 / kp;
+        let (code, record) = Record::construct(Arguments { level, ..a });
+        if code == 0 && record.0.kp + record.0.imax <= 262144.0 {
+            return (Arguments { level, ..a }, record);
+        }
+    }
+}
+
+/// Document 02's claim: from a fresh decoder with such gains, tables and pilots in -1..=1, no
+/// correction takes the wide way.
+fn bounds(count: u64) -> bool {
+    let mut r = Inputs::new(19);
+    let mut part = Part::new("wide_bounds");
+    let mut highest = 0.0;
+    for _ in 0..count {
+        let (a, mut record) = moderate(&mut r);
+        highest = f32::max(highest, record.0.kp + record.0.imax);
+        for _ in 0..8 {
+            let n = one(&mut r, &[1, 2, 64, 65, 200]);
+            let table = match r.below(4) {
+                0 => f32::cosines(),
+                1 => vec![one(&mut r, &[1.0, -1.0]); TABLE],
+                _ => (0..TABLE).map(|_| within(&mut r)).collect(),
+            };
+            let constant = within(&mut r);
+            let pilot: Vec<f32> = match r.below(3) {
+                0 => vec![constant; n],
+                _ => (0..n).map(|_| within(&mut r)).collect(),
+            };
+            let b = Block {
+                table,
+                mpx: r.block_f32(n, false),
+                pilot,
+                outputs: [vec![9.0; n], vec![9.0; n]],
+            };
+            let call = match r.below(8) {
+                0 => Call::Reset,
+                1 => Call::Disable,
+                2 => Call::Enable,
+                3 | 4 => Call::Merged(b),
+                _ => Call::Block(b),
+            };
+            let (got, wide) = record.call(Way::Fast, &call);
+            part.samples += got.outputs[0].len() as u64;
+            part.same((ACCEPTED, 0), (got.said, wide), || format!("{a:?}"));
+        }
+    }
+    if highest != 262144.0 {
+        part.differ(format!("the highest kp + imax is {highest}"));
+    }
+    part.report()
+}
+
 /// What the history rule compares: levels with `on` and `off`, and the integrator with its limit.
 trait Ruled: Compared<Value: PartialOrd> {
     fn is_finite(p: Self::Sample) -> bool;
@@ -356,7 +472,7 @@ fn history<F: Ruled>(name: &'static str, count: u64) -> bool {
                 0 => Call::Merged(b),
                 _ => Call::Block(b),
             };
-            let got = record.call(Way::Fast, &call);
+            let (got, _) = record.call(Way::Fast, &call);
             let f = record.fields();
             if F::is_finite(p) {
                 levels.push(f.level);
@@ -380,6 +496,8 @@ pub fn compare(count: u64) -> bool {
         & by_hand::<Q15>("by_hand_q15", count)
         & one_place()
         & near_the_top()
+        & leaving(count)
+        & bounds(count / 10)
         & history::<f32>("history_f32", count / 10)
         & history::<Q15>("history_q15", count / 10)
 }

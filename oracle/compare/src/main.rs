@@ -6,8 +6,8 @@
 //!                           float, N NaNs; N is 4000000 where it is not given
 //!     compare stereo [N]    lookup, correction, oscillator, matrix, encoders and verdict, and N
 //!                           sessions of each record (20000)
-//!     compare decoder [N]   the decoder: constructions, N sessions of each kind (20000), and the
-//!                           scan of the pilot
+//!     compare decoder [N]   the decoder: constructions, N sessions of each kind (20000), with the
+//!                           count of wide corrections, and the scan of the pilot
 //!     compare rds [N]       every block of 26 bits, and N sessions of each kind of the group
 //!                           former (200000)
 //!     compare summary [N]   the summary beside the pairs: N sessions of each kind (100000)
@@ -29,6 +29,7 @@ mod sessions;
 mod stereo;
 mod summary;
 mod verdict;
+mod wide;
 
 use numbers_oracle::edges::edges;
 use numbers_oracle::random::Random;

@@ -4,6 +4,8 @@ use std::collections::BTreeMap;
 
 use stereo_oracle::answers::{ACCEPTED, Said};
 
+use crate::wide::{Counts, PLACES};
+
 /// Differences of one part that are printed; the others are counted.
 const SHOWN: u64 = 5;
 
@@ -46,6 +48,12 @@ pub struct Part {
     pub past: u64,
     // rounds that a decoder's cause refused, by its place
     pub at: [u64; 8],
+    // blocks of fast f32 decoders with a count above 0, the sum of the counts, how often f was at each
+    // of the places, and whether that is told
+    counting: u64,
+    wide: u64,
+    f_at: [u64; 6],
+    f_told: bool,
     // how many of our answers are a refusal, by its number
     refused: BTreeMap<u64, u64>,
     differences: u64,
@@ -80,6 +88,10 @@ impl Part {
             lacking: 0,
             past: 0,
             at: [0; 8],
+            counting: 0,
+            wide: 0,
+            f_at: [0; 6],
+            f_told: false,
             refused: BTreeMap::new(),
             differences: 0,
             first: 0,
@@ -103,6 +115,25 @@ impl Part {
     pub fn code(&mut self, code: u32) {
         if code > 0 {
             self.refused(code as u64 - 100);
+        }
+    }
+
+    /// Counts what a block counted, by the model.
+    pub fn counts(&mut self, counts: &Counts) {
+        self.counting += (counts.wide > 0) as u64;
+        self.wide += counts.wide as u64;
+        for (all, at) in self.f_at.iter_mut().zip(counts.at) {
+            *all += at;
+        }
+    }
+
+    /// For a part that is there for the edges of the quick way: it differs where it missed one.
+    pub fn reached(&mut self) {
+        self.f_told = true;
+        for (name, at) in PLACES.iter().zip(self.f_at) {
+            if at == 0 {
+                self.differ(format!("no f was {name}"));
+            }
         }
     }
 
@@ -215,6 +246,16 @@ impl Part {
         }
         if self.several > 0 {
             print!(", {} calls with more than one summary", self.several);
+        }
+        if self.wide > 0 {
+            print!(
+                ", {} wide corrections in {} blocks",
+                self.wide, self.counting
+            );
+        }
+        if self.f_told {
+            let told = PLACES.iter().zip(self.f_at);
+            told.for_each(|(name, at)| print!(", f {at} times {name}"));
         }
         println!(", {} differences", self.differences);
         if let Some((_, text)) = &self.smallest {

@@ -7,8 +7,8 @@ mod model;
 mod slices;
 
 use decoder_oracle::answers::{self, Call, field_words};
-use pescrondilu_sys::decoder::Way;
-use pescrondilu_sys::rack::{Rack, RackWaiting, Waiting, rack_round};
+use pescrondilu_sys::decoder::{Count as _, Sample};
+use pescrondilu_sys::rack::{Rack, RackWaiting, Round, Waiting, rack_round};
 use sdrk_core::kernels::stereo::StereoPllState;
 use sdrk_core::probe::Fields;
 use sdrk_core::types::Q15;
@@ -16,10 +16,11 @@ use stereo_oracle::answers::{ACCEPTED, Said, Side, TABLE};
 use stereo_oracle::inputs::{Inputs, one};
 
 use crate::part::Part;
-use crate::record::{Ours, Record};
+use crate::record::{Ours, Record, Way};
 use crate::room::{GUARD, Room};
 use crate::summary::bits;
 use crate::summary::inputs::{Tables, Varied, decoder, found, switch, word_at};
+use crate::wide;
 use inputs::{OUTSIDE, Queue, Queues, Shape};
 use model::{Answer, Asked, PLACES, dealt};
 use slices::Lists;
@@ -42,27 +43,50 @@ fn rooms_in<F: Compared>(a: &Asked<F::Sample>, lists: &Lists) -> [Vec<Room<F::Sa
     std::array::from_fn(|k| lists.rooms(a, 2 + k, flat[k].get_mut(), F::pattern))
 }
 
+/// What a round tells beside the outputs and the records: the answer, how much each decoder took and
+/// counted, and the number that comes back.
+#[derive(Clone, Copy, PartialEq)]
+struct Told {
+    said: Said,
+    taken: [usize; PLACES],
+    wide: [usize; PLACES],
+    number: usize,
+}
+
+/// What our round replies.
+type Reply<F> =
+    Round<<F as answers::Format>::Value, <<F as answers::Format>::Sample as Sample>::Wide>;
+
+impl Told {
+    /// The records are those that the round left.
+    fn after<F: Compared>(records: &mut [Record<F>; PLACES], round: Reply<F>) -> Told {
+        *records = round.rack.decoders.map(Record);
+        Told {
+            said: round.answer.numbers(),
+            taken: round.taken,
+            wide: round.wide.map(|wide| wide.number()),
+            number: round.rack.number,
+        }
+    }
+}
+
 /// What a round answers and leaves, in words: any NaN has one word.
 #[derive(PartialEq)]
 struct Left {
-    said: Said,
-    taken: [usize; PLACES],
-    number: usize,
+    told: Told,
     /// sum and difference, with the places around them; of a list all of them
     outputs: [Vec<u64>; 2],
     decoders: [[u64; 12]; PLACES],
 }
 
 fn left<F: Compared>(
-    (said, taken, number): (Said, [usize; PLACES], usize),
+    told: Told,
     rooms: [Vec<Room<F::Sample>>; 2],
     decoders: [[u64; 12]; PLACES],
 ) -> Left {
     let words = |room: Room<F::Sample>| room.0.into_iter().map(F::word_sample);
     Left {
-        said,
-        taken,
-        number,
+        told,
         outputs: rooms.map(|rooms| rooms.into_iter().flat_map(words).collect()),
         decoders,
     }
@@ -70,14 +94,18 @@ fn left<F: Compared>(
 
 /// The first place at which the two differ. The places of an output count from the first guard.
 fn difference(expected: &Left, got: &Left) -> String {
-    if expected.said != got.said {
-        return format!("said {:?}, ours {:?}", expected.said, got.said);
+    let (e, g) = (&expected.told, &got.told);
+    if e.said != g.said {
+        return format!("said {:?}, ours {:?}", e.said, g.said);
     }
-    if expected.taken != got.taken {
-        return format!("taken {:?}, ours {:?}", expected.taken, got.taken);
+    if e.taken != g.taken {
+        return format!("taken {:?}, ours {:?}", e.taken, g.taken);
     }
-    if expected.number != got.number {
-        return format!("number {}, ours {}", expected.number, got.number);
+    if e.wide != g.wide {
+        return format!("counted {:?}, ours {:?}", e.wide, g.wide);
+    }
+    if e.number != g.number {
+        return format!("number {}, ours {}", e.number, g.number);
     }
     for (k, name) in ["sum", "difference"].into_iter().enumerate() {
         let (e, g) = (&expected.outputs[k], &got.outputs[k]);
@@ -94,12 +122,12 @@ fn difference(expected: &Left, got: &Left) -> String {
     "nowhere".into()
 }
 
-/// Our round: the answer, what was taken, and the number that comes back.
+/// Our round.
 fn ours<F: Compared>(
     records: &mut [Record<F>; PLACES],
     a: &Asked<F::Sample>,
     rooms: &mut [Room<F::Sample>; 2],
-) -> (Said, [usize; PLACES], usize) {
+) -> Told {
     let rack = Rack {
         decoders: records.map(|record| record.0),
         number: a.number,
@@ -124,8 +152,7 @@ fn ours<F: Compared>(
         sum,
         difference,
     );
-    *records = round.rack.decoders.map(Record);
-    (round.answer.numbers(), round.taken, round.rack.number)
+    Told::after(records, round)
 }
 
 /// Our rack and the original's decoders over one list of rounds.
@@ -175,15 +202,20 @@ impl<'a, F: Compared> Session<'a, F> {
             .each_ref()
             .map(|s| field_words::<F>(&F::fields(s)));
         let rooms = rooms.map(|room| vec![room]);
-        let left = left::<F>((answer.said, answer.taken, a.number), rooms, decoders);
-        (answer, left)
+        let told = Told {
+            said: answer.said,
+            taken: answer.taken,
+            wide: answer.counts.map(|counts| counts.wide),
+            number: a.number,
+        };
+        (answer, left::<F>(told, rooms, decoders))
     }
 
     fn got(&mut self, a: &Asked<F::Sample>) -> Left {
         let mut rooms = rooms::<F>(a);
-        let answer = ours::<F>(&mut self.ours, a, &mut rooms);
+        let told = ours::<F>(&mut self.ours, a, &mut rooms);
         let rooms = rooms.map(|room| vec![room]);
-        left::<F>(answer, rooms, self.ours.map(|record| record.words()))
+        left::<F>(told, rooms, self.ours.map(|record| record.words()))
     }
 
     /// What the model leaves, dealt out to slices.
@@ -200,8 +232,8 @@ impl<'a, F: Compared> Session<'a, F> {
     /// The round over slices, with these records.
     fn got_in(&self, a: &Asked<F::Sample>, lists: &Lists, mut ours: [Record<F>; PLACES]) -> Left {
         let mut rooms = rooms_in::<F>(a, lists);
-        let answer = slices::ours::<F>(&mut ours, a, lists, &mut rooms);
-        left::<F>(answer, rooms, ours.map(|record| record.words()))
+        let told = slices::ours::<F>(&mut ours, a, lists, &mut rooms);
+        left::<F>(told, rooms, ours.map(|record| record.words()))
     }
 
     /// A round, flat and over slices; whether both agree with the model. What was taken does not
@@ -212,7 +244,7 @@ impl<'a, F: Compared> Session<'a, F> {
         let got = self.got(a);
         self.calls += 1;
         self.part.cases += 1;
-        self.part.said(got.said);
+        self.part.said(got.told.said);
         let lists = Lists::new(a);
         self.count(a, &answer, &before, &lists);
         if got != expected {
@@ -249,6 +281,7 @@ impl<'a, F: Compared> Session<'a, F> {
         if answer.said != ACCEPTED {
             return;
         }
+        answer.counts.iter().for_each(|counts| part.counts(counts));
         let (taken, waited) = (&answer.taken, &answer.waited);
         let used = 0..a.number;
         part.blocks += a.number as u64;
@@ -361,6 +394,43 @@ fn sessions<F: Compared>(name: &'static str, count: u64) -> bool {
         let fields = [(); PLACES].map(|()| decoder::<F>(&mut r));
         Session::<F>::new(&mut part, number, &mut r, fields).go(&mut r, &tables);
     }
+    part.report()
+}
+
+/// Racks of decoders that leave the quick path of the correction, or come near to it.
+fn leaving(count: u64) -> bool {
+    let mut r = Inputs::new(54);
+    let mut part = Part::new("wide_racks");
+    let tables = Tables::<f32>::new(&mut r);
+    for session in 0..count {
+        let fields = [(); PLACES].map(|()| wide::decoder(&mut r));
+        let number = inputs::number(&mut r);
+        let mut session = Session::<f32>::new(&mut part, session, &mut r, fields);
+        for _ in 0..4 + r.below(6) {
+            for k in 0..PLACES {
+                let n = r.below(4) as usize * r.below(20) as usize;
+                let fields = session.fields(k);
+                let queue = &mut session.queues[k];
+                queue.mpx.extend(f32::mpx(&mut r, n));
+                queue.pilot.extend(wide::pilot(&mut r, n, &fields));
+            }
+            let k = r.below(PLACES as u64) as usize;
+            match r.below(8) {
+                0 => session.set(k, &Call::Reset),
+                1 => {
+                    let fields = wide::decoder(&mut r);
+                    session.hold(&mut r, k, fields);
+                }
+                _ => {}
+            }
+            let mut a = inputs::asked::<f32>(&mut r, number, &session.queues, &tables);
+            a.table = wide::table(&mut r, a.table.len());
+            if !session.ask(&a) {
+                break;
+            }
+        }
+    }
+    part.reached();
     part.report()
 }
 
@@ -487,9 +557,11 @@ fn order<F: Compared>(name: &'static str) -> bool {
 
 // ---- no starving
 
-/// The whole of a decoder's samples by one block of the original: its outputs and its record.
+/// The whole of a decoder's samples by one block of the original: its outputs, its count and its
+/// record.
 struct Whole {
     outputs: [Vec<u64>; 2],
+    wide: usize,
     decoder: [u64; 12],
 }
 
@@ -499,6 +571,7 @@ fn whole<F: Compared>(
     queue: &Queue<F::Sample>,
 ) -> Whole {
     let mut state = F::state(fields);
+    let wide = F::counts(&state, table, &queue.mpx, &queue.pilot).wide;
     let pairs = model::block::<F>(&mut state, table, &queue.mpx, &queue.pilot);
     let words = pairs
         .into_iter()
@@ -506,6 +579,7 @@ fn whole<F: Compared>(
     let (sum, difference) = words.unzip();
     Whole {
         outputs: [sum, difference],
+        wide,
         decoder: field_words::<F>(&F::fields(&state)),
     }
 }
@@ -517,8 +591,9 @@ struct Fixed<F: Compared> {
     records: [Record<F>; PLACES],
     queues: Queues<F::Sample>,
     table: Vec<F::Sample>,
-    /// of each decoder all outputs so far
+    /// of each decoder all outputs so far, and the sum of its counts
     outputs: [[Vec<u64>; 2]; PLACES],
+    wide: [usize; PLACES],
 }
 
 impl<F: Compared> Fixed<F> {
@@ -535,37 +610,37 @@ impl<F: Compared> Fixed<F> {
             &self.table,
             r.u32(),
         );
-        let (said, taken, given) = self.given(&a);
-        for (k, (queue, n)) in self.queues.iter_mut().zip(taken).enumerate() {
+        let (told, given) = self.given(&a);
+        for (k, (queue, n)) in self.queues.iter_mut().zip(told.taken).enumerate() {
+            self.wide[k] += told.wide[k];
             for (all, slices) in self.outputs[k].iter_mut().zip(&given) {
                 let places = slices.get(k).into_iter().flatten().take(n);
                 all.extend(places.map(|x| F::word_sample(*x)));
             }
             queue.take(n);
         }
-        (said, taken)
+        (told.said, told.taken)
     }
 
-    /// A round, every second one over slices: the answer, and each decoder's outputs.
-    #[allow(clippy::type_complexity)]
-    fn given(&mut self, a: &Asked<F::Sample>) -> (Said, [usize; PLACES], [Vec<Vec<F::Sample>>; 2]) {
+    /// A round, every second one over slices: what it tells, and each decoder's outputs.
+    fn given(&mut self, a: &Asked<F::Sample>) -> (Told, [Vec<Vec<F::Sample>>; 2]) {
         if a.word % 2 == 0 {
             let mut rooms = rooms::<F>(a);
-            let (said, taken, _) = ours::<F>(&mut self.records, a, &mut rooms);
+            let told = ours::<F>(&mut self.records, a, &mut rooms);
             let given = std::array::from_fn(|k| {
                 let output = rooms[k].get_mut().iter().copied();
                 dealt(output, a.lengths(2 + k))
             });
-            return (said, taken, given);
+            return (told, given);
         }
         let lists = Lists::new(a);
         let mut rooms = rooms_in::<F>(a, &lists);
-        let (said, taken, _) = slices::ours::<F>(&mut self.records, a, &lists, &mut rooms);
+        let told = slices::ours::<F>(&mut self.records, a, &lists, &mut rooms);
         let given = rooms.each_mut().map(|rooms| {
             let outputs = rooms.iter_mut().map(|room| room.get_mut().to_vec());
             outputs.collect()
         });
-        (said, taken, given)
+        (told, given)
     }
 
     /// A round that is refused, which is to leave all as it is.
@@ -579,12 +654,14 @@ impl<F: Compared> Fixed<F> {
         if r.below(3) == 0 {
             a.number = one(r, &OUTSIDE);
         }
-        ours::<F>(&mut self.records, &a, &mut rooms::<F>(&a)).0
+        ours::<F>(&mut self.records, &a, &mut rooms::<F>(&a)).said
     }
 
     /// Whether decoder k is as one block over all of its samples leaves it.
     fn is_as(&self, k: usize, whole: &Whole) -> bool {
-        self.outputs[k] == whole.outputs && self.records[k].words() == whole.decoder
+        self.outputs[k] == whole.outputs
+            && self.wide[k] == whole.wide
+            && self.records[k].words() == whole.decoder
     }
 }
 
@@ -650,6 +727,7 @@ fn fixed<F: Compared>(r: &mut Inputs, tables: &Tables<F>) -> (Fixed<F>, Vec<Whol
         queues,
         table,
         outputs: Default::default(),
+        wide: [0; PLACES],
     };
     (fixed, wholes)
 }
@@ -682,4 +760,5 @@ pub fn compare(count: u64) -> bool {
         & sessions::<Q15>("racks_q15", count)
         & shares::<f32>("shares_f32", count / 10)
         & shares::<Q15>("shares_q15", count / 10)
+        & leaving(count / 10)
 }

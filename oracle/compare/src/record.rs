@@ -2,18 +2,49 @@
 
 use decoder_oracle::answers::{Arguments, Block, Call, Format, Outcome, Outputs, output_words};
 use numbers_oracle::answers::word_f64;
-use pescrondilu_sys::decoder::{self, Decoder, Sample, Way};
+use pescrondilu_sys::decoder::{self, Count as _, Decoder, Sample};
 use pescrondilu_sys::rack::Racked;
 use pescrondilu_sys::summary::{Summary, Summed, summary_block};
+use sdrk_core::kernels::stereo::StereoPllState;
 use sdrk_core::probe::Fields;
 use sdrk_core::types::Q15;
 use stereo_oracle::answers::{ACCEPTED, Said};
 
-/// A format that our library has.
-pub trait Ours: Format<Sample: Summed<Value = Self::Value> + Racked<Value = Self::Value>> {}
+use crate::wide::{self, Counts};
 
-impl Ours for f32 {}
-impl Ours for Q15 {}
+/// Which of our two decoders.
+#[derive(Clone, Copy, Debug, PartialEq, Eq)]
+pub enum Way {
+    Plain,
+    Fast,
+}
+
+/// A format that our library has.
+pub trait Ours: Format<Sample: Summed<Value = Self::Value> + Racked<Value = Self::Value>> {
+    /// What an accepted block of the fast decoder counts, by the model.
+    fn counts(
+        state: &StereoPllState<Self>,
+        table: &[Self::Sample],
+        mpx: &[Self::Sample],
+        pilot: &[Self::Sample],
+    ) -> Counts;
+}
+
+impl Ours for f32 {
+    fn counts(state: &StereoPllState<f32>, table: &[f32], mpx: &[f32], pilot: &[f32]) -> Counts {
+        wide::counts(state, table, mpx, pilot)
+    }
+}
+
+impl Ours for Q15 {
+    /// Nothing is counted in Q15.
+    fn counts(_: &StereoPllState<Q15>, _: &[i16], _: &[i16], _: &[i16]) -> Counts {
+        Counts::default()
+    }
+}
+
+/// What a block answers, its outputs as it leaves them, and its count, 0 where it has none.
+type Given<S> = (Said, Outputs<S>, usize);
 
 /// The four further outputs of a summary call, one a figure.
 pub struct Columns<'a, S> {
@@ -101,45 +132,56 @@ impl<F: Ours> Record<F> {
         ]
     }
 
-    /// A block, with its outputs as they are left.
-    fn block(&mut self, way: Way, b: &Block<F::Sample>) -> (Said, Outputs<F::Sample>) {
+    fn block(&mut self, way: Way, b: &Block<F::Sample>) -> Given<F::Sample> {
         let mut outputs = b.outputs.clone();
         let [sum, difference] = &mut outputs;
-        let reply = decoder::block(way, self.0, &b.table, &b.mpx, &b.pilot, sum, difference);
-        self.0 = reply.decoder;
-        (reply.answer.numbers(), outputs)
+        let (table, mpx, pilot) = (&b.table, &b.mpx, &b.pilot);
+        let (answer, wide) = match way {
+            Way::Plain => {
+                let reply = decoder::plain_block(self.0, table, mpx, pilot, sum, difference);
+                self.0 = reply.decoder;
+                (reply.answer, 0)
+            }
+            Way::Fast => {
+                let reply = decoder::block(self.0, table, mpx, pilot, sum, difference);
+                self.0 = reply.decoder;
+                (reply.answer, reply.wide.number())
+            }
+        };
+        (answer.numbers(), outputs, wide)
     }
 
     /// A merged block, which is one call.
-    fn merged(&mut self, b: &Block<F::Sample>) -> (Said, Outputs<F::Sample>) {
+    fn merged(&mut self, b: &Block<F::Sample>) -> Given<F::Sample> {
         let mut outputs = b.outputs.clone();
         let [left, right] = &mut outputs;
         let reply = decoder::merged_block(self.0, &b.table, &b.mpx, &b.pilot, left, right);
         self.0 = reply.decoder;
-        (reply.answer.numbers(), outputs)
+        (reply.answer.numbers(), outputs, reply.wide.number())
     }
 
     /// The plain way's merged block: a plain block, and the matrix of its outputs or its refusal.
-    fn merged_plain(&mut self, b: &Block<F::Sample>) -> (Said, Outputs<F::Sample>) {
-        let (said, pairs) = self.block(Way::Plain, b);
+    fn merged_plain(&mut self, b: &Block<F::Sample>) -> Given<F::Sample> {
+        let (said, pairs, wide) = self.block(Way::Plain, b);
         if said != ACCEPTED {
-            return (said, pairs);
+            return (said, pairs, wide);
         }
         let [sum, difference] = &pairs;
         let mut outputs = b.outputs.clone();
         let [left, right] = &mut outputs;
         let answer = decoder::matrix(sum, difference, left, right);
-        (answer.numbers(), outputs)
+        (answer.numbers(), outputs, wide)
     }
 
-    /// A block with its summaries, into the outputs given beside it and not into its own.
+    /// A block with its summaries, into the outputs given beside it and not into its own: the answer
+    /// and the count.
     pub fn summary(
         &mut self,
         summary: &mut Summary<F::Sample>,
         b: &Block<F::Sample>,
         [sum, difference]: [&mut [F::Sample]; 2],
         columns: Columns<'_, F::Sample>,
-    ) -> Said {
+    ) -> (Said, usize) {
         let (table, mpx, pilot) = (&b.table, &b.mpx, &b.pilot);
         let Columns {
             stereo,
@@ -152,28 +194,30 @@ impl<F: Ours> Record<F> {
         );
         self.0 = reply.decoder;
         *summary = reply.summary;
-        reply.answer.numbers()
+        (reply.answer.numbers(), reply.wide.number())
     }
 
-    pub fn call(&mut self, way: Way, call: &Call<F::Sample>) -> Outcome {
-        let (mut said, mut outputs) = (ACCEPTED, Default::default());
+    /// What a call leaves, and its count, 0 where it has none.
+    pub fn call(&mut self, way: Way, call: &Call<F::Sample>) -> (Outcome, usize) {
+        let (mut said, mut outputs, mut wide) = (ACCEPTED, Default::default(), 0);
         match call {
             Call::Enable => self.0 = F::Sample::ENABLE(self.0),
             Call::Disable => self.0 = F::Sample::DISABLE(self.0),
             Call::Reset => self.0 = F::Sample::RESET(self.0),
-            Call::Block(b) => (said, outputs) = self.block(way, b),
+            Call::Block(b) => (said, outputs, wide) = self.block(way, b),
             Call::Merged(b) => {
-                (said, outputs) = match way {
+                (said, outputs, wide) = match way {
                     Way::Plain => self.merged_plain(b),
                     Way::Fast => self.merged(b),
                 }
             }
         }
-        Outcome {
+        let outcome = Outcome {
             said,
             outputs: output_words::<F>(&outputs),
             fields: self.words(),
             reads: self.reads(),
-        }
+        };
+        (outcome, wide)
     }
 }

@@ -3,7 +3,10 @@
 use numbers_oracle::answers::{word_f32, word_i16};
 use pescrondilu_sys::decoder::matrix;
 use pescrondilu_sys::encoder::{Nco, pescrondilu_nco_advance, pescrondilu_nco_increment_for};
-use pescrondilu_sys::numbers::{self, pescrondilu_correction_fast, pescrondilu_correction_plain};
+use pescrondilu_sys::numbers::{
+    self, Corrected, pescrondilu_correction_fast, pescrondilu_correction_plain,
+    pescrondilu_quick_serves,
+};
 use stereo_oracle::answers::{self, Arguments, Block, Encoder, SIDES, TABLE};
 use stereo_oracle::inputs::{Inputs, Limits, corrections, limits, one};
 
@@ -11,6 +14,7 @@ use crate::encoder;
 use crate::part::Part;
 use crate::sessions;
 use crate::verdict;
+use crate::wide::{MOST, is_wide, v_of};
 
 /// Lengths of the blocks.
 const LENGTHS: [usize; 7] = [0, 1, 2, 63, 64, 65, 4096];
@@ -55,9 +59,15 @@ fn lookups() -> bool {
     f32s.report() & pairs.report() & plain.report() & quick.report()
 }
 
+/// Whether |v| is below 2^51, by the pattern without the sign: a NaN's is above that of infinity.
+fn serves(v: f64) -> bool {
+    v.to_bits() << 1 < MOST.to_bits() << 1
+}
+
 struct Corrections {
     plain: Part,
     fast: Part,
+    serves: Part,
 }
 
 impl Corrections {
@@ -65,6 +75,7 @@ impl Corrections {
         Corrections {
             plain: Part::new("correction_plain"),
             fast: Part::new("correction_fast"),
+            serves: Part::new("quick_serves"),
         }
     }
 
@@ -73,14 +84,24 @@ impl Corrections {
         let plain = pescrondilu_correction_plain(f);
         let fast = pescrondilu_correction_fast(f);
         self.plain.same(answers::correction_plain(f), plain, of);
-        self.fast.same(answers::correction_fallback(f), fast, of);
-        if plain != fast {
+        let expected = Corrected {
+            step: answers::correction_fallback(f),
+            quick: !is_wide(f),
+        };
+        self.fast.same(expected, fast, of);
+        if plain != fast.step {
             self.fast.differ(format!("{}: plain {plain:x}", of()));
         }
+        self.compare_v(v_of(f));
+    }
+
+    fn compare_v(&mut self, v: f64) {
+        let of = || format!("v {:016x}", v.to_bits());
+        self.serves.same(serves(v), pescrondilu_quick_serves(v), of);
     }
 
     fn report(&self) -> bool {
-        self.plain.report() & self.fast.report()
+        self.plain.report() & self.fast.report() & self.serves.report()
     }
 }
 
@@ -94,6 +115,20 @@ fn some_corrections() -> bool {
             0 => w,
             // a size from 2^-34 to 2^21, where v goes from less than 1 to above 2^51
             _ => w & 0x807F_FFFF | (93 + (w >> 23 & 0xFF) % 56) << 23,
+        }));
+    }
+    let edges = (0..2001).map(|k| MOST.to_bits() + k - 1000);
+    for bits in edges.chain([f64::INFINITY.to_bits(), f64::INFINITY.to_bits() + 1, 0]) {
+        c.compare_v(f64::from_bits(bits));
+        c.compare_v(-f64::from_bits(bits));
+    }
+    for k in 0..10_000_000u64 {
+        let w = r.0.word();
+        c.compare_v(f64::from_bits(match k % 4 {
+            0 => r.0.nan_f64(),
+            1 => w,
+            // a size from 2^50 to 2^52
+            _ => w & 0x800F_FFFF_FFFF_FFFF | (1073 + w % 2) << 52,
         }));
     }
     c.report()

@@ -7,7 +7,6 @@ mod model;
 use std::fmt::Debug;
 
 use decoder_oracle::answers::{self, Block, Call, Format, Outcome, field_words};
-use pescrondilu_sys::decoder::Way;
 use pescrondilu_sys::summary::{Summary, Summed};
 use sdrk_core::kernels::stereo::StereoPllState;
 use sdrk_core::probe::Fields;
@@ -15,9 +14,11 @@ use sdrk_core::types::Q15;
 use stereo_oracle::answers::{ACCEPTED, Said, Side, TABLE};
 use stereo_oracle::inputs::{Inputs, one};
 
+use crate::decoder::counts_of;
 use crate::part::Part;
-use crate::record::{Columns, Ours, Record};
+use crate::record::{Columns, Ours, Record, Way};
 use crate::room::{GUARD, Room};
+use crate::wide;
 use inputs::{Asked, Tables, Varied, word_at};
 use model::{Figures, Model, Sample};
 
@@ -56,6 +57,8 @@ fn rooms<F: Compared>(a: &Asked<F::Sample>) -> Rooms<F::Sample> {
 #[derive(Default, PartialEq)]
 struct Left {
     said: Said,
+    /// the count, and over a list the sum of the counts of its summary calls
+    wide: usize,
     /// sum, difference, stereo, mono, changes, magnitude; of one call with the places around them
     outputs: [Vec<u64>; 6],
     decoder: [u64; 12],
@@ -75,7 +78,7 @@ fn summary_words<F: Compared>(s: &Summary<F::Sample>) -> [u64; 6] {
 }
 
 fn left<F: Compared>(
-    said: Said,
+    (said, wide): (Said, usize),
     rooms: Rooms<F::Sample>,
     decoder: [u64; 12],
     summary: &Summary<F::Sample>,
@@ -84,6 +87,7 @@ fn left<F: Compared>(
     let counts = |room: Room<u32>| room.0.into_iter().map(u64::from).collect();
     Left {
         said,
+        wide,
         outputs: [
             samples(rooms.sum),
             samples(rooms.difference),
@@ -101,6 +105,9 @@ fn left<F: Compared>(
 fn difference(expected: &Left, got: &Left, guard: usize) -> String {
     if expected.said != got.said {
         return format!("said {:?}, ours {:?}", expected.said, got.said);
+    }
+    if expected.wide != got.wide {
+        return format!("counted {}, ours {}", expected.wide, got.wide);
     }
     let names = [
         "sum",
@@ -229,8 +236,10 @@ impl<'a, F: Compared> Session<'a, F> {
         let mut rooms = rooms::<F>(a);
         if said != ACCEPTED {
             let decoder = field_words::<F>(&self.fields());
-            return left::<F>(said, rooms, decoder, &record);
+            return left::<F>((said, 0), rooms, decoder, &record);
         }
+        let counts = F::counts(&self.theirs, &b.table, &b.mpx, &b.pilot);
+        self.part.counts(&counts);
         let (samples, state) = history::<F>(self.theirs, b);
         let decoder = field_words::<F>(&F::fields(&state));
         // the original's block is its samples one by one
@@ -247,7 +256,7 @@ impl<'a, F: Compared> Session<'a, F> {
         fill(&mut rooms.mono, figures.iter().map(|f| f.mono));
         fill(&mut rooms.changes, figures.iter().map(|f| f.changes));
         fill(&mut rooms.magnitude, figures.iter().map(|f| f.magnitude));
-        left::<F>(said, rooms, decoder, &self.model.record())
+        left::<F>((said, counts.wide), rooms, decoder, &self.model.record())
     }
 
     fn got(&mut self, a: &Asked<F::Sample>) -> Left {
@@ -299,11 +308,15 @@ impl<'a, F: Compared> Session<'a, F> {
     /// A call that moves the decoder and not the summary; whether both sides agree.
     fn between(&mut self, way: Way, call: &Call<F::Sample>) -> bool {
         let (expected, next) = self.block(call);
+        let counts = match way {
+            Way::Plain => Default::default(),
+            Way::Fast => counts_of::<F>(&self.theirs, call, expected.said),
+        };
         self.theirs = next;
         let got = self.ours.call(way, call);
         self.calls += 1;
         self.part.merged += matches!(call, Call::Merged(_)) as u64;
-        if got == expected {
+        if got == (expected, counts.wide) {
             return true;
         }
         let n = call.block().map_or(0, |b| b.mpx.len());
@@ -392,6 +405,36 @@ fn sessions<F: Compared>(name: &'static str, seed: u64, count: u64, by_hand: boo
         }
         session.go(&mut r, &tables, by_hand);
     }
+    part.report()
+}
+
+/// Decoders that leave the quick path of the correction, or come near to it, with fresh summaries.
+fn leaving(count: u64) -> bool {
+    let mut r = Inputs::new(46);
+    let mut part = Part::new("wide_summaries");
+    let tables = Tables::<f32>::new(&mut r);
+    for number in 0..count {
+        let fields = wide::decoder(&mut r);
+        let mut session = Session::<f32>::new(&mut part, number, fields, 1);
+        session.fresh(inputs::period(&mut r));
+        for _ in 0..6 + r.below(8) {
+            let fields = session.fields();
+            let mut a = inputs::asked::<f32>(&mut r, &fields, &session.summary, &tables);
+            a.block.table = wide::table(&mut r, a.block.table.len());
+            a.block.pilot = wide::pilot(&mut r, a.block.pilot.len(), &fields);
+            let way = one(&mut r, &[Way::Plain, Way::Fast]);
+            let same = match r.below(16) {
+                0 => session.between(way, &Call::Reset),
+                1 => session.between(way, &Call::Block(a.block)),
+                2 => session.between(way, &Call::Merged(a.block)),
+                _ => session.ask(&a),
+            };
+            if !same {
+                break;
+            }
+        }
+    }
+    part.reached();
     part.report()
 }
 
@@ -538,7 +581,8 @@ fn summarized<F: Compared>(
         magnitude: &mut magnitude,
     };
     let outputs = [&mut sum[..], &mut difference[..]];
-    let said = record.summary(summary, part, outputs, columns);
+    let (said, wide) = record.summary(summary, part, outputs, columns);
+    all.wide += wide;
     for (k, samples) in [(0, sum), (1, difference), (5, magnitude)] {
         all.outputs[k].extend(samples.iter().map(|x| F::word_sample(*x)));
     }
@@ -554,7 +598,7 @@ fn passed<F: Compared>(r: &mut Inputs, record: &mut Record<F>, mut part: Block<F
     part.outputs = [(); 2].map(|()| vec![F::nought(); n]);
     let sort = one(r, &[Call::Block, Call::Merged]);
     let way = one(r, &[Way::Plain, Way::Fast]);
-    record.call(way, &sort(part)).said
+    record.call(way, &sort(part)).0.said
 }
 
 /// The stretches, each cut into blocks, by our library alone.
@@ -612,11 +656,15 @@ fn worked_out<F: Compared>(
         if let Some(call) = &s.set {
             answers::call(Side::Reference, &mut state, call);
         }
-        let (samples, next) = history::<F>(state, &s.block);
+        let (b, before) = (&s.block, state);
+        let (samples, next) = history::<F>(state, b);
         state = next;
         if !s.summarized {
             continue;
         }
+        let counts = F::counts(&before, &b.table, &b.mpx, &b.pilot);
+        part.counts(&counts);
+        all.wide += counts.wide;
         let mpx = s.block.mpx.iter().map(|x| F::word_sample(*x));
         all.outputs[0].extend(mpx);
         raw.extend(samples);
@@ -711,4 +759,5 @@ pub fn compare(count: u64) -> bool {
         & sessions::<Q15>("held_q15", 42, count, true)
         & cuts::<f32>("cuts_f32", count / 4)
         & cuts::<Q15>("cuts_q15", count / 4)
+        & leaving(count / 4)
 }

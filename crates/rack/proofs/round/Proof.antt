@@ -14,7 +14,8 @@ use Rattle.rack_waiting.proofs.Loops.{constant}
 use Rattle.rack.specs.Round.{Queue}
 use Rattle.rack.specs.Flat.{queuesOf}
 use Rattle.rack.proofs.Working.{length-queues}
-use Rattle.rack.proofs.Rounds.{Answered, refused, agree, some, carried-out}
+use Rattle.rack.proofs.Rounds.{Answered, same-queues, answer-is, refused, agree, some, carried-out}
+use Rattle.rack.proofs.Wide.{Replied, wides-refused, wides-carried-out}
 use Rattle.rack.proofs.round.Statement.{statement}
 use Rattle.rack.proofs.round.Tie as tie
 
@@ -40,8 +41,14 @@ module _ (c : tie.After-is-accepted) where
       Answered f32 (a .number) (a .allowance) (a .table .now) ds (a .waiting) flat (says (c .before .round-answer .result)) (replicate 8 true) (c .before .before .parts .result)
   answered = record { places = eight ∙ sym waits; parts = c .before .before .parts .ensures; fit = constant true 8 ds eight; answer = c .before .round-answer .ensures }
 
+  eight-queues : length (queuesOf (start .args .waiting) flat) ≡ 8
+  eight-queues = length-queues (start .args .waiting) flat ∙ waits
+
   none-taken : replicate {A = ℕ} 8 0 ≡ map (λ (q : Queue Float). 0) (queuesOf (start .args .waiting) flat)
-  none-taken = constant {B = ℕ} 0 8 (queuesOf (start .args .waiting) flat) (length-queues (start .args .waiting) flat ∙ waits)
+  none-taken = constant {B = ℕ} 0 8 (queuesOf (start .args .waiting) flat) eight-queues
+
+  replied : let a = start .args in Replied (a .number) (a .allowance) (a .table .now) ds (queuesOf (a .waiting) flat) (says (c .before .round-answer .result))
+  replied = record { queues = eight-queues; answer = answer-is answered }
 
 pub round-spec : {M : Type 1} → statement M
 round-spec =
@@ -50,10 +57,18 @@ round-spec =
     (λ c κs. search needs)
     (λ c κs. search needs)
     (λ c κs. search needs)
-    (λ r. let c = r .before in refused (answered c) (failed (c .is-accepted .ensures) (r .if1 .taken)) (none-taken c))
+    (λ r.
+    let c = r .before in
+    let h = failed (c .is-accepted .ensures) (r .if1 .taken) in
+    (refused (answered c) h (none-taken c), wides-refused (replied c) h))
     (λ r. let c = r .before in some (answered c) (passed (c .is-accepted .ensures) (r .if1 .left)))
     (λ r κs. let c = r .before .before .before in agree (answered c) (passed (c .is-accepted .ensures) (r .before .before .if1 .left)) refl)
     (λ c κs. search needs)
     (λ c. search needs)
     (λ c. search needs)
-    (λ r. let c = r .before .before .before .before .before .before .before .before .before in carried-out (answered c) (passed (c .is-accepted .ensures) (r .before .before .before .before .before .before .before .before .if1 .left)) refl (r .taken .ensures) (r .before .before .before .before .before .work .ensures)))
+    (λ r.
+    let u = r .before .before .before .before .before .before .before in
+    let c = u .before .before .before .before in
+    let h = passed (c .is-accepted .ensures) (u .before .before .before .if1 .left) in
+    let w = u .work .ensures in
+    (carried-out (answered c) h refl (r .taken .ensures) (w .0), wides-carried-out (replied c) h (same-queues (answered c)) (w .1))))

@@ -6,15 +6,17 @@ use denote.Ref.{now}
 use lib.ListN.{length, replicate, length-map}
 use lib.Ieee.{Float}
 use Rattle.answers.specs.Answer.{says}
+use Rattle.answers.proofs.Passes.{length-samples}
 use Rattle.answers.proofs.Tests.{failed, passed}
 use Rattle.decoder_record.specs.State.{Pll}
 use Rattle.decoder_record.specs.Records.{pllF32}
 use Rattle.decoder.specs.F32.{f32}
 use Rattle.rack_waiting.proofs.Loops.{constant}
 use Rattle.rack.specs.Round.{waitingOf}
+use Rattle.rack.proofs.Wide.{Replied, wides-refused, wides-carried-out}
 use Rattle.rack_slices.specs.Slices.{addressesOf, Slices, queuesAt}
 use Rattle.rack_slices.proofs.Lending.{slicesIn}
-use Rattle.rack_slices.proofs.Rounds.{Answered, refused, even, some, carried-out}
+use Rattle.rack_slices.proofs.Rounds.{Answered, answer-is, refused, even, some, carried-out}
 use Rattle.rack_slices.proofs.round.Statement.{statement}
 use Rattle.rack_slices.proofs.round.Tie as tie
 
@@ -47,6 +49,9 @@ module _ (c : tie.After-is-accepted) where
       Answered f32 (a .number) (a .allowance) (a .table .now) ds s (says (c .before .round-answer .result)) (replicate 8 true) (measured .lengths .result)
   answered = record { places = eight; waits = measured .lengths .ensures .0; fit = constant true 8 ds eight; answer = c .before .round-answer .ensures }
 
+  replied : let a = start .args in Replied (a .number) (a .allowance) (a .table .now) ds (queuesAt s) (says (c .before .round-answer .result))
+  replied = record { queues = length-samples 8 _; answer = answer-is answered }
+
 pub round-spec : {M : Type 1} → statement M
 round-spec =
     tie.close
@@ -58,10 +63,10 @@ round-spec =
     (λ c. search needs)
     (λ r.
     let c = r .before in
-    let l = measured c .lengths .ensures in (
-      refused (answered c) (failed (c .is-accepted .ensures) (r .if1 .taken)) (ap (map now) (l .1)) (ap (map now) (l .2)),
-      ap addressesOf (l .1),
-      ap addressesOf (l .2),
+    let l = measured c .lengths .ensures in
+    let h = failed (c .is-accepted .ensures) (r .if1 .taken) in (
+      (refused (answered c) h (ap (map now) (l .1)) (ap (map now) (l .2)), ap addressesOf (l .1), ap addressesOf (l .2)),
+      wides-refused (replied c) h,
     ))
     (λ r. let c = r .before in some (answered c) (passed (c .is-accepted .ensures) (r .if1 .left)))
     (λ r κs.
@@ -74,10 +79,11 @@ round-spec =
     (λ c. search needs)
     (λ c. search needs)
     (λ r.
-    let u = r .before .before .before in
+    let u = r .before .before .before .before .before in
     let c = u .before .before .before .before in
-    let l = measured c .lengths .ensures in (
-      carried-out (answered c) {s′ = read c} (passed (c .is-accepted .ensures) (u .before .before .before .if1 .left)) (same c) (r .taken .ensures) (u .work .ensures .0),
-      u .work .ensures .1 ∙ ap addressesOf (l .1),
-      u .work .ensures .2 ∙ ap addressesOf (l .2),
+    let l = measured c .lengths .ensures in
+    let h = passed (c .is-accepted .ensures) (u .before .before .before .if1 .left) in
+    let w = u .work .ensures in (
+      (carried-out (answered c) {s′ = read c} h (same c) (r .taken .ensures) (w .0 .0), w .0 .1 ∙ ap addressesOf (l .1), w .0 .2 ∙ ap addressesOf (l .2)),
+      wides-carried-out (replied c) h (ap (λ (z : Slices Float). queuesAt z) (same c)) (w .1),
     )))

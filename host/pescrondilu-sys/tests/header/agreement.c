@@ -403,10 +403,10 @@ static void put_q15_summary(pescrondilu_q15_summary s)
     put32(s.before);
 }
 
-static void put_taken(const size_t *taken)
+static void put_counts(const size_t *counts)
 {
     for (int i = 0; i < PESCRONDILU_RACK_PLACES; i++)
-        put64(taken[i]);
+        put64(counts[i]);
 }
 
 static void put_f32_rack(pescrondilu_f32_rack r)
@@ -617,10 +617,11 @@ static void decoders(void)
     EACH(pescrondilu_q15_read, { put_readout(pescrondilu_q15_read(any_q15())); })
     EACH(pescrondilu_f32_block, {
         fill();
-        pescrondilu_f32_reply r =
+        pescrondilu_f32_counted r =
             pescrondilu_f32_block(any_f32(), table, TABLE_N, in1, N, in2, length(N, 5), out1,
                                   length(N, 6), out2, length(N, 7));
         put_answer(r.answer);
+        put64(r.wide);
         put_f32(r.decoder);
         put_outputs();
     })
@@ -653,10 +654,11 @@ static void decoders(void)
     })
     EACH(pescrondilu_f32_merged_block, {
         fill();
-        pescrondilu_f32_reply r =
+        pescrondilu_f32_counted r =
             pescrondilu_f32_merged_block(any_f32(), table, TABLE_N, in1, N, in2, length(N, 5), out1,
                                          length(N, 6), out2, length(N, 7));
         put_answer(r.answer);
+        put64(r.wide);
         put_f32(r.decoder);
         put_outputs();
     })
@@ -688,6 +690,7 @@ static void decoders(void)
             changes, places(s.period, held, wrong, 2), magnitude,
             places(s.period, held, wrong, 3));
         put_answer(r.answer);
+        put64(r.wide);
         put_f32(r.decoder);
         put_f32_summary(r.summary);
         put_outputs();
@@ -720,7 +723,8 @@ static void decoders(void)
             rack, allowance, waiting, table, TABLE_N, in1, N, in2, length(N, 5), out1, length(N, 6),
             out2, length(N, 7));
         put_answer(r.answer);
-        put_taken(r.taken);
+        put_counts(r.taken);
+        put_counts(r.wide);
         put_f32_rack(r.rack);
         put_outputs();
     })
@@ -733,7 +737,7 @@ static void decoders(void)
             rack, allowance, waiting, table_q, TABLE_N, in1_q, N, in2_q, length(N, 5), out1_q,
             length(N, 6), out2_q, length(N, 7));
         put_answer(r.answer);
-        put_taken(r.taken);
+        put_counts(r.taken);
         put_q15_rack(r.rack);
         put_outputs();
     })
@@ -752,7 +756,8 @@ static void decoders(void)
             rack, allowance, table, TABLE_N, mpx, lists[0].count, pilot, lists[1].count, sum,
             lists[2].count, difference, lists[3].count);
         put_answer(r.answer);
-        put_taken(r.taken);
+        put_counts(r.taken);
+        put_counts(r.wide);
         put_f32_rack(r.rack);
         put_outputs();
     })
@@ -771,7 +776,7 @@ static void decoders(void)
             rack, allowance, table_q, TABLE_N, mpx, lists[0].count, pilot, lists[1].count, sum,
             lists[2].count, difference, lists[3].count);
         put_answer(r.answer);
-        put_taken(r.taken);
+        put_counts(r.taken);
         put_q15_rack(r.rack);
         put_outputs();
     })
@@ -956,7 +961,12 @@ static void numbers(void)
         put16(q.value);
     })
     EACH(pescrondilu_correction_plain, { put32(pescrondilu_correction_plain(any_float())); })
-    EACH(pescrondilu_correction_fast, { put32(pescrondilu_correction_fast(any_float())); })
+    EACH(pescrondilu_correction_fast, {
+        pescrondilu_corrected y = pescrondilu_correction_fast(any_float());
+        put32(y.step);
+        put_bool(y.quick);
+    })
+    EACH(pescrondilu_quick_serves, { put_bool(pescrondilu_quick_serves(any_double())); })
     EACH(pescrondilu_cos_f32, { put_float(pescrondilu_cos_f32(table, TABLE_N, any32())); })
     EACH(pescrondilu_interp_f32_pair, {
         pescrondilu_pair p = pescrondilu_interp_f32_pair(table, TABLE_N, any32());

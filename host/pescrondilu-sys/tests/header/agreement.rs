@@ -40,13 +40,6 @@ const ODD32: [u32; 12] = [
 ];
 const SWITCHES: [u32; 4] = [0, 1, 2, 0xffffffff];
 
-/// Which of a format's three blocks.
-enum Which {
-    Fast,
-    Plain,
-    Merged,
-}
-
 /// A list: how many slices are in it, and where each begins and how long it is.
 #[derive(Clone, Copy, Default)]
 struct List {
@@ -545,10 +538,25 @@ impl Calls {
         self.put32(s.before);
     }
 
-    fn put_round<V: Copy>(&mut self, r: Round<V>, put: fn(&mut Calls, Decoder<V>)) {
+    fn put_count(&mut self, wide: usize) {
+        self.put64(wide as u64);
+    }
+
+    /// Where nothing is counted, C has no such field.
+    fn put_nothing(&mut self, (): ()) {}
+
+    fn put_round<V: Copy, W: Copy>(
+        &mut self,
+        r: Round<V, W>,
+        put_wide: fn(&mut Calls, W),
+        put: fn(&mut Calls, Decoder<V>),
+    ) {
         self.put_answer(r.answer);
         for n in r.taken {
             self.put64(n as u64);
+        }
+        for wide in r.wide {
+            put_wide(self, wide);
         }
         for d in r.rack.decoders {
             put(self, d);
@@ -625,14 +633,9 @@ impl Calls {
     // ---- The blocks. SAFETY, for each: no length is above that of its slice, and no output
     // overlaps another argument.
 
-    fn f32_block(&mut self, which: Which) {
+    fn f32_block<W>(&mut self, call: Block<f32, f32, W>, put_wide: fn(&mut Calls, W)) {
         self.fill();
         let d = self.any_f32();
-        let call = match which {
-            Which::Fast => pescrondilu_f32_block,
-            Which::Plain => pescrondilu_f32_plain_block,
-            Which::Merged => pescrondilu_f32_merged_block,
-        };
         let r = unsafe {
             call(
                 d,
@@ -649,18 +652,14 @@ impl Calls {
             )
         };
         self.put_answer(r.answer);
+        put_wide(self, r.wide);
         self.put_f32(r.decoder);
         self.put_outputs();
     }
 
-    fn q15_block(&mut self, which: Which) {
+    fn q15_block(&mut self, call: Block<i64, i16, ()>) {
         self.fill();
         let d = self.any_q15();
-        let call = match which {
-            Which::Fast => pescrondilu_q15_block,
-            Which::Plain => pescrondilu_q15_plain_block,
-            Which::Merged => pescrondilu_q15_merged_block,
-        };
         let r = unsafe {
             call(
                 d,
@@ -712,6 +711,7 @@ impl Calls {
             )
         };
         self.put_answer(r.answer);
+        self.put_count(r.wide);
         self.put_f32(r.decoder);
         self.put_summary(r.summary, Calls::put_float);
         self.put_outputs();
@@ -777,7 +777,7 @@ impl Calls {
                 self.length(N, 7),
             )
         };
-        self.put_round(r, Calls::put_f32);
+        self.put_round(r, Calls::put_count, Calls::put_f32);
     }
 
     fn q15_rack_round(&mut self) {
@@ -802,7 +802,7 @@ impl Calls {
                 self.length(N, 7),
             )
         };
-        self.put_round(r, Calls::put_q15);
+        self.put_round(r, Calls::put_nothing, Calls::put_q15);
     }
 
     fn f32_rack_round_slices(&mut self) {
@@ -829,7 +829,7 @@ impl Calls {
                 lists[3].count,
             )
         };
-        self.put_round(r, Calls::put_f32);
+        self.put_round(r, Calls::put_count, Calls::put_f32);
         // the lists come back as they were
         assert_eq!(mpx, lists[0].inputs(&self.in1));
         assert_eq!(pilot, lists[1].inputs(&self.in2));
@@ -861,7 +861,7 @@ impl Calls {
                 lists[3].count,
             )
         };
-        self.put_round(r, Calls::put_q15);
+        self.put_round(r, Calls::put_nothing, Calls::put_q15);
         // the lists come back as they were
         assert_eq!(mpx, lists[0].inputs(&self.in1_q));
         assert_eq!(pilot, lists[1].inputs(&self.in2_q));
@@ -1025,15 +1025,23 @@ impl Calls {
             let r = pescrondilu_q15_read(t.any_q15());
             t.put_readout(r);
         });
-        self.each("pescrondilu_f32_block", |t| t.f32_block(Which::Fast));
-        self.each("pescrondilu_f32_plain_block", |t| t.f32_block(Which::Plain));
-        self.each("pescrondilu_q15_block", |t| t.q15_block(Which::Fast));
-        self.each("pescrondilu_q15_plain_block", |t| t.q15_block(Which::Plain));
+        self.each("pescrondilu_f32_block", |t| {
+            t.f32_block(pescrondilu_f32_block, Calls::put_count)
+        });
+        self.each("pescrondilu_f32_plain_block", |t| {
+            t.f32_block(pescrondilu_f32_plain_block, Calls::put_nothing)
+        });
+        self.each("pescrondilu_q15_block", |t| {
+            t.q15_block(pescrondilu_q15_block)
+        });
+        self.each("pescrondilu_q15_plain_block", |t| {
+            t.q15_block(pescrondilu_q15_plain_block)
+        });
         self.each("pescrondilu_f32_merged_block", |t| {
-            t.f32_block(Which::Merged)
+            t.f32_block(pescrondilu_f32_merged_block, Calls::put_count)
         });
         self.each("pescrondilu_q15_merged_block", |t| {
-            t.q15_block(Which::Merged)
+            t.q15_block(pescrondilu_q15_merged_block)
         });
         self.each("pescrondilu_f32_summary_new", |t| {
             let s = pescrondilu_f32_summary_new(t.any32());
@@ -1250,7 +1258,12 @@ impl Calls {
         });
         self.each("pescrondilu_correction_fast", |t| {
             let y = pescrondilu_correction_fast(t.any_float());
-            t.put32(y);
+            t.put32(y.step);
+            t.put_bool(y.quick);
+        });
+        self.each("pescrondilu_quick_serves", |t| {
+            let y = pescrondilu_quick_serves(t.any_double());
+            t.put_bool(y);
         });
         self.each("pescrondilu_cos_f32", |t| {
             let p = t.any32();
@@ -1349,7 +1362,7 @@ fn the_calls_cover_the_library() {
             _ if name.ends_with("_block") => &[0, 109, 110, 111],
             "pescrondilu_encode_set_pilot" | "pescrondilu_encode_rds_set_pilot" => &[0, 114],
             "pescrondilu_encode_rds_set_rds" => &[0, 116],
-            "pescrondilu_on_air" | "pescrondilu_f32_scan" => &[0, 1],
+            "pescrondilu_on_air" | "pescrondilu_f32_scan" | "pescrondilu_quick_serves" => &[0, 1],
             "pescrondilu_q14_from_f64" => &[0, 118],
             "pescrondilu_rds_group" => &[0, 111, 119],
             "pescrondilu_rds_former_new" => &[0],
@@ -1361,5 +1374,31 @@ fn the_calls_cover_the_library() {
             _ => continue,
         };
         assert_eq!(codes(name), expected, "{name}");
+    }
+}
+
+/// .. and if a count that is 0 and one that is not stand in what accepted calls gave.
+#[test]
+fn the_calls_count() {
+    let lines = from_rust();
+    for (name, counts) in [
+        ("pescrondilu_f32_block", 3..4),
+        ("pescrondilu_f32_merged_block", 3..4),
+        ("pescrondilu_f32_summary_block", 3..4),
+        ("pescrondilu_f32_rack_round", 3 + PLACES..3 + 2 * PLACES),
+        (
+            "pescrondilu_f32_rack_round_slices",
+            3 + PLACES..3 + 2 * PLACES,
+        ),
+    ] {
+        let mut found = BTreeSet::new();
+        for line in lines.lines() {
+            let words: Vec<&str> = line.split(' ').collect();
+            if words[0] == name && words[1] == "00000000" {
+                found.extend(words[1..][counts.clone()].iter().copied());
+            }
+        }
+        assert!(found.contains("0000000000000000"), "{name}: {found:?}");
+        assert!(found.len() > 2, "{name}: {found:?}");
     }
 }

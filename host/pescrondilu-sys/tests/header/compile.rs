@@ -92,6 +92,8 @@ fn receiver_runs() {
         "pilot one short: code 110, expected 1920, got 1919",
         "record and outputs: as they were",
         "a rate of 0: code 101",
+        "a large pilot: 960 corrections took the wide way",
+        "after a reset: 0",
         "a switch of 2: comes back as 1",
         "disabled: difference 0, lamp on",
         "all is as expected",

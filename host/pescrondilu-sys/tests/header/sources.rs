@@ -36,14 +36,15 @@ impl Declared {
 }
 
 /// A struct in C, in Rattle and in Rust. In Rattle a slice of a list is no struct.
-pub const STRUCTS: [(&str, &str, &str); 37] = [
+pub const STRUCTS: [(&str, &str, &str); 39] = [
     ("pescrondilu_answer", "Code", "Code"),
     ("pescrondilu_f32", "DecoderF32", "Decoder<f32>"),
     ("pescrondilu_q15", "DecoderQ15", "Decoder<i64>"),
     ("pescrondilu_f32_made", "CodedF32", "Coded<f32>"),
     ("pescrondilu_q15_made", "CodedQ15", "Coded<i64>"),
-    ("pescrondilu_f32_reply", "ReplyF32", "Reply<f32>"),
-    ("pescrondilu_q15_reply", "ReplyQ15", "Reply<i64>"),
+    ("pescrondilu_f32_reply", "ReplyF32", "Reply<f32,()>"),
+    ("pescrondilu_q15_reply", "ReplyQ15", "Reply<i64,()>"),
+    ("pescrondilu_f32_counted", "CountedF32", "Reply<f32,usize>"),
     ("pescrondilu_readout", "Readout", "Readout"),
     (
         "pescrondilu_f32_summary",
@@ -58,19 +59,19 @@ pub const STRUCTS: [(&str, &str, &str); 37] = [
     (
         "pescrondilu_f32_summary_reply",
         "SummaryReplyF32",
-        "SummaryReply<f32,f32>",
+        "SummaryReply<f32,f32,usize>",
     ),
     (
         "pescrondilu_q15_summary_reply",
         "SummaryReplyQ15",
-        "SummaryReply<i64,i16>",
+        "SummaryReply<i64,i16,()>",
     ),
     ("pescrondilu_f32_rack", "RackF32", "Rack<f32>"),
     ("pescrondilu_q15_rack", "RackQ15", "Rack<i64>"),
     ("pescrondilu_waiting", "Waiting", "Waiting"),
     ("pescrondilu_rack_waiting", "RackWaiting", "RackWaiting"),
-    ("pescrondilu_f32_round", "RoundF32", "Round<f32>"),
-    ("pescrondilu_q15_round", "RoundQ15", "Round<i64>"),
+    ("pescrondilu_f32_round", "RoundF32", "Round<f32,usize>"),
+    ("pescrondilu_q15_round", "RoundQ15", "Round<i64,()>"),
     ("pescrondilu_f32_input", "&[f32]", "Input<f32>"),
     ("pescrondilu_f32_output", "&mut[f32]", "Output<f32>"),
     ("pescrondilu_q15_input", "&[i16]", "Input<i16>"),
@@ -102,6 +103,7 @@ pub const STRUCTS: [(&str, &str, &str); 37] = [
     ("pescrondilu_rds_reply", "FormerReply", "FormerReply"),
     ("pescrondilu_pair", "Pair", "Pair"),
     ("pescrondilu_q14", "CodedQ14", "CodedQ14"),
+    ("pescrondilu_corrected", "Corrected", "Corrected"),
 ];
 
 const SCALARS: [(&str, &str); 10] = [
@@ -369,9 +371,20 @@ fn restricted(kind: String) -> String {
     }
 }
 
-/// The two formats: what stands in the place of V, a decoder's number, and of S, a sample.
-const FORMATS: [[(&str, &str); 2]; 2] =
-    [[("V", "f32"), ("S", "f32")], [("V", "i64"), ("S", "i16")]];
+/// What stands in the place of V, a decoder's number, of S, a sample, and of W, a count.
+type Types = [(&'static str, &'static str); 3];
+
+/// The two formats, as their fast calls have them.
+const FORMATS: [Types; 2] = [
+    [("V", "f32"), ("S", "f32"), ("W", "usize")],
+    [("V", "i64"), ("S", "i16"), ("W", NOTHING)],
+];
+
+/// The plain way in f32, which has no count.
+const UNCOUNTED: Types = [("V", "f32"), ("S", "f32"), ("W", NOTHING)];
+
+/// The type of a field that takes no room and that C does not have.
+const NOTHING: &str = "()";
 
 /// The words with types in the place of parameters.
 fn replaced(words: &[String], types: &[(&str, &str)]) -> Vec<String> {
@@ -400,9 +413,12 @@ fn rust_fields(words: &[String], types: &[(&str, &str)]) -> Vec<Named> {
     let inner = &words[1..words.len() - 1];
     let field = |part: &[String]| {
         assert!(part[0] == "pub" && part[2] == ":", "not a field: {part:?}");
-        (part[1].clone(), rust_type(&replaced(&part[3..], types)))
+        let kind = replaced(&part[3..], types);
+        // alone, or the element of an array
+        let nothing = kind.iter().any(|word| word == NOTHING);
+        (!nothing).then(|| (part[1].clone(), rust_type(&kind)))
     };
-    parts(inner).into_iter().map(field).collect()
+    parts(inner).into_iter().filter_map(field).collect()
 }
 
 // ---- This crate
@@ -479,10 +495,16 @@ pub fn rust() -> Declared {
                 .position(|word| word == "{")
                 .expect("it has fields");
             let body = &here[open..closing(here, open)];
+            let of = |types: &Types| replaced(&here[2..open], types).concat();
             let generic = here[3] == "<";
-            for types in &FORMATS[..if generic { 2 } else { 1 }] {
-                let name = replaced(&here[2..open], types).concat();
-                declared.fields(&in_c(&name), rust_fields(body, types));
+            let mut all = FORMATS[..if generic { 2 } else { 1 }].to_vec();
+            // the reply of the plain way is there too
+            let known = |name: String| STRUCTS.iter().any(|(_, _, rust)| *rust == name);
+            if here[3..open].iter().any(|word| word == "W") && known(of(&UNCOUNTED)) {
+                all.push(UNCOUNTED);
+            }
+            for types in all {
+                declared.fields(&in_c(&of(&types)), rust_fields(body, &types));
             }
         }
     }

@@ -5,9 +5,12 @@
 //! one; the pilot loop also `process_merged`, which gives left and right at once, and
 //! `process_summary`, which gives figures of each period beside sum and difference. A rack has
 //! `round`, a block for each of its loops, and `round_flat`, the same with the samples of all loops
-//! one behind the other. They copy no samples and give a [`Refusal`](crate::Refusal). sdrk's traits over slices of pairs stand beside them for
-//! [`Proved`](crate::Proved); these copy through a small scratch and give an
-//! [`Error`](crate::Error).
+//! one behind the other. They copy no samples and give a [`Refusal`](crate::Refusal). sdrk's traits
+//! over slices of pairs stand beside them for [`Proved`](crate::Proved); these copy through a small
+//! scratch and give an [`Error`](crate::Error).
+//!
+//! After each of these calls an f32 loop tells how many of its phase corrections left the quick path
+//! ([`StereoPllState::wide_corrections`]).
 
 mod decoder;
 mod encoder;

@@ -1,9 +1,12 @@
 //! A model of a round by document 02's request 6. Each flat slice is dealt out place by place, and
 //! each decoder is the original's own, which runs by itself on the samples that the share gives it.
 
-use decoder_oracle::answers::{self, Block, Format};
+use decoder_oracle::answers::{self, Block};
 use sdrk_core::kernels::stereo::StereoPllState;
 use stereo_oracle::answers::{ACCEPTED, Said};
+
+use crate::record::Ours;
+use crate::wide::Counts;
 
 /// The places of a rack.
 pub const PLACES: usize = 8;
@@ -36,6 +39,8 @@ impl<S> Asked<S> {
 pub struct Answer {
     pub said: Said,
     pub taken: [usize; PLACES],
+    /// what each decoder's samples counted
+    pub counts: [Counts; PLACES],
     /// of an accepted round how many samples each decoder had
     pub waited: [usize; PLACES],
     /// the decoder whose cause refused the round
@@ -47,6 +52,7 @@ impl Answer {
         Answer {
             said,
             taken: [0; PLACES],
+            counts: Default::default(),
             waited: [0; PLACES],
             refused,
         }
@@ -88,7 +94,7 @@ fn own<S: Copy>(a: &Asked<S>, [sum, difference]: [&[S]; 2]) -> Vec<Own<S>> {
 }
 
 /// A round. The outputs and the decoders change only where it is accepted.
-pub fn round<F: Format>(
+pub fn round<F: Ours>(
     states: &mut [StereoPllState<F>; PLACES],
     a: &Asked<F::Sample>,
     sum: &mut [F::Sample],
@@ -110,9 +116,11 @@ pub fn round<F: Format>(
     }
     let share = allowance / a.number;
     let (mut taken, mut waited) = ([0; PLACES], [0; PLACES]);
+    let mut counts = [Counts::default(); PLACES];
     for (k, has) in own.iter().enumerate() {
         let (mpx, pilot) = (&has.block.mpx, &has.block.pilot);
         let n = mpx.len().min(share);
+        counts[k] = F::counts(&states[k], &a.table, &mpx[..n], &pilot[..n]);
         let pairs = block::<F>(&mut states[k], &a.table, &mpx[..n], &pilot[..n]);
         let [sums, differences] = &has.places;
         for (i, (s, d)) in pairs.into_iter().enumerate() {
@@ -124,13 +132,14 @@ pub fn round<F: Format>(
     Answer {
         said: ACCEPTED,
         taken,
+        counts,
         waited,
         refused: None,
     }
 }
 
 /// A block that is accepted, by the original alone.
-pub fn block<F: Format>(
+pub fn block<F: Ours>(
     state: &mut StereoPllState<F>,
     table: &[F::Sample],
     mpx: &[F::Sample],

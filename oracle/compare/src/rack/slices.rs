@@ -1,11 +1,10 @@
 //! A round over slices of each decoder's own, which are the parts of the flat slices.
 
 use pescrondilu_sys::rack::{Rack, rack_round_slices};
-use stereo_oracle::answers::Said;
 use stereo_oracle::inputs::Inputs;
 
-use super::Compared;
 use super::model::{Asked, PLACES, dealt};
+use super::{Compared, Told};
 use crate::record::Record;
 use crate::room::Room;
 use crate::summary::inputs::word_at;
@@ -88,13 +87,13 @@ impl Lists {
     }
 }
 
-/// Our round over slices: the answer, what was taken, and the number that comes back.
+/// Our round over slices.
 pub fn ours<F: Compared>(
     records: &mut [Record<F>; PLACES],
     a: &Asked<F::Sample>,
     lists: &Lists,
     rooms: &mut [Vec<Room<F::Sample>>; 2],
-) -> (Said, [usize; PLACES], usize) {
+) -> Told {
     let rack = Rack {
         decoders: records.map(|record| record.0),
         number: a.number,
@@ -113,6 +112,5 @@ pub fn ours<F: Compared>(
         &mut sum.collect::<Vec<_>>(),
         &mut difference.collect::<Vec<_>>(),
     );
-    *records = round.rack.decoders.map(Record);
-    (round.answer.numbers(), round.taken, round.rack.number)
+    Told::after(records, round)
 }

@@ -45,22 +45,23 @@ use denote.Triple.Spec.{Meets, tripleOf}
 use denote.Triple.Table.{entered, cited}
 use denote.Triple.Walked.{says, Stays, stay-ref, stay-none-slice, gave-slice, walkOf, goes-ref, goes-none-slice, goes-gave-slice, Walks, ends-at, walked, walk-meets}
 use denote.Exit.{yes}
-use Rattle.answers.specs.Answer.{says as told}
+use Rattle.counted.specs.Counted.{saidIn, countIn}
 use Rattle.decoder.specs.Machine.{Blocked, blockOf}
 use Rattle.decoder.specs.F32.{f32 as arithmetic}
 use Rattle.decoder_record.specs.Records.{pllF32}
 use Rattle.decoder_record.specs.declared.pll_f32.StereoPllF32.{StereoPllF32}
-use Rattle.decoder.specs.declared.parts.ReplyF32.{ReplyF32}
+use Rattle.decoder_fast.specs.Wide.{countF32}
+use Rattle.decoder_fast.specs.declared.FastReply.{FastReply}
 use Rattle.decoder_record.proofs.pll_f32.StereoPllF32 as T
 use Rattle.decoder_record.proofs.pll_f32.StereoPllF32.Laws as T′
-use Rattle.answers.proofs.answer.Answer as E
-use Rattle.answers.proofs.answer.Answer.Laws as E′
-use Rattle.decoder.proofs.parts.ReplyF32 as P
-use Rattle.decoder.proofs.parts.ReplyF32.Laws as P′
-use Rattle.decoder.proofs.fast.block as g
-use Rattle.decoder.proofs.fast.block.Symbol as g-def
-use Rattle.decoder.proofs.fast.block.Symbol.{name as #g}
-use Rattle.decoder.proofs.fast.block.Met as g-thm
+use Rattle.counted.proofs.Counted as E
+use Rattle.counted.proofs.Counted.Laws as E′
+use Rattle.decoder_fast.proofs.FastReply as P
+use Rattle.decoder_fast.proofs.FastReply.Laws as P′
+use Rattle.decoder_fast.proofs.block as g
+use Rattle.decoder_fast.proofs.block.Symbol as g-def
+use Rattle.decoder_fast.proofs.block.Symbol.{name as #g}
+use Rattle.decoder_fast.proofs.block.Met as g-thm
 use Rattle.stereo.proofs.lent_f32.block.Key.{name as #f}
 use Rattle.stereo.proofs.lent_f32.block as f
 use Rattle.stereo.proofs.lent_f32.block.Statement as stated
@@ -97,8 +98,10 @@ module _ {M : Type 1} (𝓤 : URA M) (H : Heap 𝓤) (A : Atoms 𝓤) (W : Given
   Post = walkOf 𝓤 H A f.ended stayed (f.clauses 𝓤 H A at-mem run) .post (((κ, κs), (q, (q₁, (q₂, (q₃, (q₄, (q₅, tt)))))), tt, x, at), tt)
 
   -- what is claimed of a reply and two last lists
-  abbrev Claim : ReplyF32 → List Float → List Float → Type 0
-  Claim r ys zs = _≡_ {A = Blocked Float} (record { said = told (r .answer); sum = ys; difference = zs; pll = pllF32 (r .decoder) }) (blockOf arithmetic (pllF32 h) (t .now) (m .now) (p .now) (s .now) (d .now))
+  abbrev Claim : FastReply → List Float → List Float → Type 0
+  Claim r ys zs =
+      (_≡_ {A = Blocked Float} (record { said = saidIn (r .answer); sum = ys; difference = zs; pll = pllF32 (r .decoder) }) (blockOf arithmetic (pllF32 h) (t .now) (m .now) (p .now) (s .now) (d .now)))
+      × (countIn (r .answer) ≡ countF32 (pllF32 h) (t .now) (m .now) (p .now) (s .now) (d .now))
 
   -- the slices' tokens; what the three `&` own, and what the two `&mut` own
   abbrev Toks : Item 𝓤
@@ -129,7 +132,7 @@ module _ {M : Type 1} (𝓤 : URA M) (H : Heap 𝓤) (A : Atoms 𝓤) (W : Given
   asked : ent 𝓤 (⋆ 𝓤 H A (‵ (T.the-row .own h (T′.lowered h ∷ [])) ∷ ‵ (fsep Ot (fsep Om (fsep Op Os))) ∷ Toks ∷ [])) (Core 𝓤 H A at-mem run .pre to-core)
   asked = qed W (‵ (T.the-row .own h (T′.lowered h ∷ [])) ∷ ‵ (fsep Ot (fsep Om (fsep Op Os))) ∷ Toks ∷ []) ∵ fjoin ! $ move ! (1 ∷ 0 ∷ []) $ join ! $ frame ! $ done !
 
-  exits : (r : ReplyF32) (ys zs : List Float) → Claim r ys zs → length ys ≡ length (s .now) → length zs ≡ length (d .now) → Is E.the-row (r .answer) (E′.lowered (r .answer) ∷ [])
+  exits : (r : FastReply) (ys zs : List Float) → Claim r ys zs → length ys ≡ length (s .now) → length zs ≡ length (d .now) → Is E.the-row (r .answer) (E′.lowered (r .answer) ∷ [])
       → ent 𝓤 (⋆ 𝓤 H A (‵ (fobs γ (T.the-row .coded .code (r .decoder))) ∷ ‵ (fbor κ (Body (mem T.the-row) b o γ)) ∷ ‵ (flft κ q) ∷ Toks ∷ ‵ (finally elt (d .name) zs) ∷ ‵ (finally elt (s .name) ys) ∷ ‵ Op ∷ ‵ Om ∷ ‵ Ot ∷ [])) (Post (E′.lowered (r .answer)))
   exits r ys zs e ly lz is =
       qed W (‵ (fobs γ (T.the-row .coded .code (r .decoder))) ∷ ‵ (fbor κ (Body (mem T.the-row) b o γ)) ∷ ‵ (flft κ q) ∷ Toks ∷ ‵ (finally elt (d .name) zs) ∷ ‵ (finally elt (s .name) ys) ∷ ‵ Op ∷ ‵ Om ∷ ‵ Ot ∷ []) ∵
@@ -163,7 +166,7 @@ module _ {M : Type 1} (𝓤 : URA M) (H : Heap 𝓤) (A : Atoms 𝓤) (W : Given
         assigns ! (agg ! (and-then ! (load ! (from ! (stop !)) (look ! 7 refl)) (and-then ! (load ! (from ! (fld ! refl (stop !))) (look-in ! 17 (sub ! 1 refl (whole !)))) (no-more !)))) (from ! (stop !)) (init ! 5 refl (tt, (tt, (record { fits = rd .0 }, tt)))) $
         move ! (1 ∷ 31 ∷ 35 ∷ []) $ use3 W (raw (Core 𝓤 H A at-mem run .pre to-core)) asked $
         calls-at ! fm (Core 𝓤 H A at-mem run) known to-core (and-then ! (load ! (from ! (stop !)) (look ! 13 refl)) (and-then ! (load ! (from ! (stop !)) (look ! 25 refl)) (and-then ! (load ! (from ! (stop !)) (look ! 23 refl)) (and-then ! (load ! (from ! (stop !)) (look ! 21 refl)) (and-then ! (load ! (from ! (stop !)) (look ! 9 refl)) (and-then ! (load ! (from ! (stop !)) (look ! 5 refl)) (no-more !))))))) (λ v.
-        use1 W (later (some (λ (r : ReplyF32). (Toks ⊛ ‵ (P.the-row .own r (v ∷ []))) ⊛ raw (ensured 𝓤 H A g.ended (g.clauses 𝓤 H A at-mem run) κs passed tt r)))) (id⊢ 𝓤 _) $ await ! tt $ pick ! (λ r.
+        use1 W (later (some (λ (r : FastReply). (Toks ⊛ ‵ (P.the-row .own r (v ∷ []))) ⊛ raw (ensured 𝓤 H A g.ended (g.clauses 𝓤 H A at-mem run) κs passed tt r)))) (id⊢ 𝓤 _) $ await ! tt $ pick ! (λ r.
         -- what the block ensures, at some last lists
         split ! $ move ! (1 ∷ []) $ use1 W (some (λ (ws : Unit {0} × (Unit {0} × (Unit {0} × (Unit {0} × (List Float × (List Float × Unit {0})))))). ‵ (lasts g.ended κs passed ws) ⊛ raw (fact 𝓤 (Claim r (ws .1 .1 .1 .1 .0) (ws .1 .1 .1 .1 .1 .0))))) (id⊢ 𝓤 _) $ pick ! (λ ws.
         split ! $ move ! (1 ∷ []) $ heard ! (Claim r (ws .1 .1 .1 .1 .0) (ws .1 .1 .1 .1 .1 .0)) (λ e. fsplit ! $ drop ! $ fsplit ! $ drop ! $ fsplit ! $ drop ! $ fsplit ! $ drop ! $ fsplit ! $ fsplit ! $ move ! (1 ∷ []) $ feqL ! (λ ly.
@@ -203,4 +206,4 @@ block-spec 𝓤 H 𝓜 𝓖 𝓡 =
     entered 𝓤 H (tripleOf 𝓤 H (𝓖 .A) f.signature (f.spec 𝓤 H (𝓖 .A) (𝓜 .mem) (𝓡 .run)))
     (tables 𝓤 H 𝓜 𝓡 code.env .C) (tables 𝓤 H 𝓜 𝓡 code.env .Λ) #f code.function (code.unfolded 𝓤 H 𝓜 𝓡)
     (meets 𝓤 H (𝓖 .A) (givenOf 𝓤 H 𝓜 𝓖) (𝓜 .mem) (𝓡 .run) (tablesOf 𝓤 H 𝓜 (tables 𝓤 H 𝓜 𝓡 code.env))
-    (cited 𝓤 H (Core 𝓤 H (𝓖 .A) (𝓜 .mem) (𝓡 .run)) 𝓜 𝓡 code.env #g g-def.routine code.calls-decoder·fast·block (g-thm.met 𝓤 H 𝓜 𝓖 𝓡)))
+    (cited 𝓤 H (Core 𝓤 H (𝓖 .A) (𝓜 .mem) (𝓡 .run)) 𝓜 𝓡 code.env #g g-def.routine code.calls-decoder-fast·block (g-thm.met 𝓤 H 𝓜 𝓖 𝓡)))

@@ -6,10 +6,10 @@ use Rattle.test_rack.proofs.start.rack_f32.Statement.{statement}
 use Rattle.test_rack.proofs.start.rack_f32.Tie as tie
 
 abbrev Inv-loop : tie.InvT-loop
-Inv-loop all₀ k₀ phase₀ all k phase = k ≤ 8
+Inv-loop marks all₀ k₀ phase₀ all k phase = k ≤ 8
 
 abbrev μ-loop : tie.MeasureT-loop
-μ-loop all₀ k₀ phase₀ all k phase = 8 - k
+μ-loop marks all₀ k₀ phase₀ all k phase = 8 - k
 
 pub rack-f32-spec : {M : Type 1} → statement M
 rack-f32-spec =
@@ -19,6 +19,7 @@ rack-f32-spec =
     μ-loop
     (λ c κs. search needs)
     (λ c. omega arith)
+    (λ c κs. search needs)
     (λ c κs. search needs)
     (λ c. search needs)
     (λ c. search needs)

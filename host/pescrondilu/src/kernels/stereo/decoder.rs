@@ -2,7 +2,7 @@
 
 use core::f64::consts::PI;
 
-use pescrondilu_sys::decoder::{self as sys, Decoder, Readout, Reply, Sample as _, Way};
+use pescrondilu_sys::decoder::{self as sys, Count, Decoder, Readout, Reply, Sample as _};
 
 use super::pairs::{LONG, SHORT, join, same_input, same_output};
 use crate::Proved;
@@ -105,11 +105,23 @@ impl StereoPllCoefficients {
 /// assert_eq!((sum, difference), (mpx, [Q15(0); 64]));
 /// # Ok::<(), pescrondilu::Error>(())
 /// ```
-#[derive(Clone, Copy, Debug, PartialEq)]
+///
+/// Loops are equal where their records and coefficients are. What the last call counted
+/// ([`StereoPllState::wide_corrections`]) is not compared.
+#[derive(Clone, Copy, Debug)]
 pub struct StereoPllState<T: RealSample> {
     /// The calls of the summary and of the rack change it too.
     pub(super) record: Decoder<T::Value>,
     coefficients: StereoPllCoefficients,
+    /// The wide corrections of the last accepted block, of any call; in Q15 0.
+    pub(super) wide: usize,
+}
+
+// Written out, since the count tells of a call and has no part in what the loop does next.
+impl<T: RealSample> PartialEq for StereoPllState<T> {
+    fn eq(&self, other: &Self) -> bool {
+        self.record == other.record && self.coefficients == other.coefficients
+    }
 }
 
 impl<T: RealSample> StereoPllState<T> {
@@ -163,6 +175,7 @@ impl<T: RealSample> StereoPllState<T> {
         Ok(Self {
             record,
             coefficients: StereoPllCoefficients::new(natural_hz, pilot_level, beta, rate_hz, step0),
+            wide: 0,
         })
     }
 
@@ -182,6 +195,7 @@ impl<T: RealSample> StereoPllState<T> {
         Self {
             record,
             coefficients: StereoPllCoefficients::rounded::<T>(&record),
+            wide: 0,
         }
     }
 
@@ -311,7 +325,15 @@ impl<T: RealSample> StereoPllState<T> {
         sum: &mut [T],
         difference: &mut [T],
     ) -> core::result::Result<(), Refusal> {
-        self.block(Way::Fast, table, mpx, pilot, sum, difference)
+        let reply = sys::block(
+            self.record,
+            T::raw(table),
+            T::raw(mpx),
+            T::raw(pilot),
+            T::raw_mut(sum),
+            T::raw_mut(difference),
+        );
+        self.take(reply)
     }
 
     /// As [`StereoPllState::process_with`] by the core's plain block, which is the port of sdrk's
@@ -327,7 +349,15 @@ impl<T: RealSample> StereoPllState<T> {
         sum: &mut [T],
         difference: &mut [T],
     ) -> core::result::Result<(), Refusal> {
-        self.block(Way::Plain, table, mpx, pilot, sum, difference)
+        let reply = sys::plain_block(
+            self.record,
+            T::raw(table),
+            T::raw(mpx),
+            T::raw(pilot),
+            T::raw_mut(sum),
+            T::raw_mut(difference),
+        );
+        self.take(reply)
     }
 
     /// Left and right from one call, with the crate's table: the [`matrix`](super::matrix()) of
@@ -401,33 +431,12 @@ impl<T: RealSample> StereoPllState<T> {
         self.take(reply)
     }
 
+    /// The next record and the block's count, unless the block was turned back.
     #[inline]
-    fn block(
-        &mut self,
-        way: Way,
-        table: &[T],
-        mpx: &[T],
-        pilot: &[T],
-        sum: &mut [T],
-        difference: &mut [T],
-    ) -> core::result::Result<(), Refusal> {
-        let reply = sys::block(
-            way,
-            self.record,
-            T::raw(table),
-            T::raw(mpx),
-            T::raw(pilot),
-            T::raw_mut(sum),
-            T::raw_mut(difference),
-        );
-        self.take(reply)
-    }
-
-    /// The next record, unless the block was turned back.
-    #[inline]
-    fn take(&mut self, reply: Reply<T::Value>) -> core::result::Result<(), Refusal> {
+    fn take<W: Count>(&mut self, reply: Reply<T::Value, W>) -> core::result::Result<(), Refusal> {
         accepted(reply.answer)?;
         self.record = reply.decoder;
+        self.wide = reply.wide.number();
         Ok(())
     }
 
@@ -435,6 +444,52 @@ impl<T: RealSample> StereoPllState<T> {
     #[cold]
     fn empty_block(&mut self) -> core::result::Result<(), Refusal> {
         self.process(&[], &[], &mut [], &mut [])
+    }
+}
+
+impl StereoPllState<f32> {
+    /// How many phase corrections of the last accepted block took the wide way; 0 before any block.
+    ///
+    /// The loop corrects its phase once a sample, by f: kp times the detector's error, plus the
+    /// integrator. From f = -524288 up to, and without, f = 524288 the quick way serves. Else, and
+    /// where f is NaN, the correction takes the wide way, which gives the same and takes longer. (In
+    /// exact words: the quick way serves where f times 2^32 plus 0.5, as f64, is below 2^51 in
+    /// magnitude.) So a receiver sees here when its loop leaves the quick path.
+    ///
+    /// The count is that of the block's own samples, whichever call it was: over slices or pairs,
+    /// merged, or with a summary. In a [`Rack`](super::Rack) it is that of the samples which this
+    /// loop took in the last accepted round. A call that is turned back has no count, and leaves
+    /// what is here. [`StereoPllState::process_plain`] does not try the quick way, and leaves 0.
+    ///
+    /// From a loop that construction returned, it is 0 after every block as long as kp + imax of its
+    /// record, added in f32, is at most 262144 and, since the start or the last reset, each pilot
+    /// sample and each table entry of every block is in -1 to 1. This is proved.
+    ///
+    /// ```
+    /// use pescrondilu::kernels::stereo::StereoPllState;
+    ///
+    /// let mut st = StereoPllState::<f32>::with_beta(19_000.0, 20.0, 0.1, 0.5, 192_000.0)?;
+    /// let (mut sum, mut difference) = ([0.0; 3], [0.0; 3]);
+    /// st.process(&[0.5; 3], &[0.1; 3], &mut sum, &mut difference)?;
+    /// assert_eq!(st.wide_corrections(), 0);
+    ///
+    /// // A demodulator fails after one good sample.
+    /// st.process(&[0.5; 3], &[0.1, 1e30, 1e30], &mut sum, &mut difference)?;
+    /// assert_eq!(st.wide_corrections(), 2);
+    /// # Ok::<(), pescrondilu::Refusal>(())
+    /// ```
+    ///
+    /// A Q15 loop has one way only, and no count:
+    ///
+    /// ```compile_fail,E0599
+    /// use pescrondilu::{Q15, kernels::stereo::StereoPllState};
+    ///
+    /// let st = StereoPllState::<Q15>::with_beta(19_000.0, 20.0, 0.1, 0.5, 192_000.0)?;
+    /// st.wide_corrections();
+    /// # Ok::<(), pescrondilu::Refusal>(())
+    /// ```
+    pub fn wide_corrections(&self) -> usize {
+        self.wide
     }
 }
 
@@ -475,9 +530,12 @@ impl<T: RealSample> StereoPll<T> for Proved {
         let n = mpx.len();
         if n == 0 || pilot.len() != n || output.len() != n {
             // No piece reaches the core here, and the record's cause comes before the lengths'.
-            state.empty_block()?;
+            let mut next = *state;
+            next.empty_block()?;
             same_input(n, pilot.len())?;
-            return Ok(same_output(n, output.len())?);
+            same_output(n, output.len())?;
+            *state = next;
+            return Ok(());
         }
         let run = if n <= SHORT {
             in_pieces::<T, SHORT>
@@ -488,8 +546,8 @@ impl<T: RealSample> StereoPll<T> for Proved {
     }
 }
 
-/// A block of equal lengths, `N` samples at a time. Only the first piece can be refused, for the
-/// record: a block leaves it fit.
+/// A block of equal lengths, `N` samples at a time, which is counted as one. Only the first piece can
+/// be refused, for the record: a block leaves it fit.
 fn in_pieces<T: RealSample, const N: usize>(
     state: &mut StereoPllState<T>,
     mpx: &[T],
@@ -497,11 +555,14 @@ fn in_pieces<T: RealSample, const N: usize>(
     output: &mut [T::Complex],
 ) -> core::result::Result<(), Refusal> {
     let (mut sum, mut difference) = ([T::ZERO; N], [T::ZERO; N]);
+    let mut wide = 0;
     let inputs = mpx.chunks(N).zip(pilot.chunks(N));
     for ((m, p), o) in inputs.zip(output.chunks_mut(N)) {
         let (s, d) = (&mut sum[..m.len()], &mut difference[..m.len()]);
         state.process(m, p, s, d)?;
+        wide += state.wide;
         join(s, d, o);
     }
+    state.wide = wide;
     Ok(())
 }

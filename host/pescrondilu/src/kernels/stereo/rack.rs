@@ -2,11 +2,15 @@
 
 use core::fmt;
 
+use pescrondilu_sys::decoder::{Count as _, Sample};
 use pescrondilu_sys::rack::{self as sys, RackWaiting, Waiting};
 
 use super::{RACK_PLACES, StereoPllState};
 use crate::error::{Refusal, accepted};
 use crate::types::RealSample;
+
+/// What a round of the core replies.
+type Round<T> = sys::Round<<T as RealSample>::Value, <<T as RealSample>::Raw as Sample>::Wide>;
 
 /// The cause of a rack with too few or too many decoders.
 const NUMBER: u32 = 21;
@@ -26,7 +30,9 @@ const NUMBER: u32 = 21;
 /// the `w` samples. This is proved for every list of rounds.
 ///
 /// [`Rack::round`] is for decoders that have slices of their own, [`Rack::round_flat`] for those
-/// whose samples lie one behind the other. Both leave the same.
+/// whose samples lie one behind the other. Both leave the same. In f32 each decoder then tells by
+/// [`wide_corrections`](StereoPllState::wide_corrections) how many of its own corrections took the
+/// wide way in the round.
 ///
 /// ```
 /// use pescrondilu::kernels::stereo::{Rack, RackQueue, StereoPllState};
@@ -342,10 +348,11 @@ impl<T: RealSample> Rack<T> {
     }
 
     /// Goes on with what a round left, and gives what was taken.
-    fn after(&mut self, round: sys::Round<T::Value>) -> Result<[usize; RACK_PLACES], Refusal> {
+    fn after(&mut self, round: Round<T>) -> Result<[usize; RACK_PLACES], Refusal> {
         accepted(round.answer)?;
-        for (st, record) in self.decoders.iter_mut().zip(round.rack.decoders) {
-            st.record = record;
+        let left = round.rack.decoders.into_iter().zip(round.wide);
+        for (st, (record, wide)) in self.decoders.iter_mut().zip(left) {
+            (st.record, st.wide) = (record, wide.number());
         }
         Ok(round.taken)
     }

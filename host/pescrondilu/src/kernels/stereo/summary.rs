@@ -2,6 +2,7 @@
 
 use core::slice::{from_mut, from_ref};
 
+use pescrondilu_sys::decoder::Count as _;
 use pescrondilu_sys::summary::{self as sys, Summary as SummaryRecord, Summed as _};
 
 use super::StereoPllState;
@@ -258,6 +259,7 @@ impl<T: RealSample> StereoPllState<T> {
         );
         accepted(reply.answer)?;
         self.record = reply.decoder;
+        self.wide = reply.wide.number();
         summary.record = from_core(reply.summary);
         Ok(())
     }

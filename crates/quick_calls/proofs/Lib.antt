@@ -1,0 +1,4 @@
+pub mod Calm
+pub mod Blocks
+pub mod Claims
+pub mod Rounds
