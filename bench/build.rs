@@ -18,22 +18,36 @@ fn run(command: &mut Command) {
     assert!(done.success(), "{command:?}: {done}");
 }
 
-/// The object with the decoders' names, all others hidden, as an archive.
+/// The objects that may have the decoders' names: an earlier library has both formats in the first.
+const OBJECTS: [&str; 2] = ["c_decoder.o", "c_decoder_q15.o"];
+
+/// What the archive lists.
+fn listed(library: &Path) -> String {
+    let list = Command::new("ar").arg("t").arg(library).output();
+    let list = list.unwrap_or_else(|why| panic!("ar t: {why}"));
+    String::from_utf8(list.stdout).expect("names of objects")
+}
+
+/// The objects with the decoders' names, all others hidden, as an archive.
 fn renamed(library: &Path, out: &Path) {
-    let object = out.join("c_decoder.o");
-    run(Command::new("ar")
-        .current_dir(out)
-        .args(["x"])
-        .arg(library)
-        .arg("c_decoder.o"));
-    let mut copy = Command::new("objcopy");
-    for (name, here) in NAMES {
-        copy.arg("--redefine-sym").arg(format!("{name}={here}"));
-        copy.arg(format!("--keep-global-symbol={here}"));
-    }
-    run(copy.arg(&object));
+    let listed = listed(library);
     let archive = out.join("libbefore.a");
-    run(Command::new("ar").arg("rcsD").arg(archive).arg(object));
+    let mut join = Command::new("ar");
+    join.arg("rcsD").arg(archive);
+    for object in OBJECTS {
+        if !listed.lines().any(|name| name == object) {
+            continue;
+        }
+        run(Command::new("ar").current_dir(out).arg("x").arg(library).arg(object));
+        let mut copy = Command::new("objcopy");
+        for (name, here) in NAMES {
+            copy.arg("--redefine-sym").arg(format!("{name}={here}"));
+            copy.arg(format!("--keep-global-symbol={here}"));
+        }
+        run(copy.arg(out.join(object)));
+        join.arg(out.join(object));
+    }
+    run(&mut join);
 }
 
 fn main() {

@@ -11,19 +11,8 @@ use Rattle.c_decoder.proofs.in_f32.pescrondilu_f32_block.Reads as f32-b
 use Rattle.c_decoder.proofs.in_f32.pescrondilu_f32_plain_block.Reads as f32-plain-block
 use Rattle.c_decoder.proofs.in_f32.pescrondilu_f32_read.Reads as f32-read
 use Rattle.c_decoder.proofs.in_f32.pescrondilu_f32_scan.Reads as f32-scan
-use Rattle.c_decoder.proofs.in_q15.taken.Reads as q15-taken
-use Rattle.c_decoder.proofs.in_q15.given.Reads as q15-given
-use Rattle.c_decoder.proofs.in_q15.pescrondilu_q15_new.Reads as q15-new
-use Rattle.c_decoder.proofs.in_q15.pescrondilu_q15_enable.Reads as q15-enable
-use Rattle.c_decoder.proofs.in_q15.pescrondilu_q15_disable.Reads as q15-disable
-use Rattle.c_decoder.proofs.in_q15.pescrondilu_q15_reset.Reads as q15-reset
-use Rattle.c_decoder.proofs.in_q15.pescrondilu_q15_block.Reads as q15-block
-use Rattle.c_decoder.proofs.in_q15.pescrondilu_q15_plain_block.Reads as q15-plain-block
-use Rattle.c_decoder.proofs.in_q15.pescrondilu_q15_read.Reads as q15-read
-use Rattle.c_decoder.proofs.matrices.pescrondilu_matrix_f32.Reads as matrix-f32
-use Rattle.c_decoder.proofs.matrices.pescrondilu_matrix_q15.Reads as matrix-q15
 
-pub f32-free :
+pub nothing-asked :
     (f32-taken.Asked ≡ λ κs a. Unit {0})
     × (f32-given.Asked ≡ λ κs a. Unit {0})
     × (f32-new.Asked ≡ λ κs a. Unit {0})
@@ -34,21 +23,4 @@ pub f32-free :
     × (f32-plain-block.Asked ≡ λ κs a. Unit {0})
     × (f32-read.Asked ≡ λ κs a. Unit {0})
     × (f32-scan.Asked ≡ λ κs a. Unit {0})
-f32-free = (refl, refl, refl, refl, refl, refl, refl, refl, refl, refl)
-
-pub q15-free :
-    (q15-taken.Asked ≡ λ κs a. Unit {0})
-    × (q15-given.Asked ≡ λ κs a. Unit {0})
-    × (q15-new.Asked ≡ λ κs a. Unit {0})
-    × (q15-enable.Asked ≡ λ κs a. Unit {0})
-    × (q15-disable.Asked ≡ λ κs a. Unit {0})
-    × (q15-reset.Asked ≡ λ κs a. Unit {0})
-    × (q15-block.Asked ≡ λ κs a. Unit {0})
-    × (q15-plain-block.Asked ≡ λ κs a. Unit {0})
-    × (q15-read.Asked ≡ λ κs a. Unit {0})
-q15-free = (refl, refl, refl, refl, refl, refl, refl, refl, refl)
-
-pub matrix-free :
-    (matrix-f32.Asked ≡ λ κs a. Unit {0})
-    × (matrix-q15.Asked ≡ λ κs a. Unit {0})
-matrix-free = (refl, refl)
+nothing-asked = (refl, refl, refl, refl, refl, refl, refl, refl, refl, refl)

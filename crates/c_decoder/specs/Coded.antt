@@ -1,20 +1,16 @@
 -- A decoder's record in C, over the format, and what the calls give. Definitions only.
 use Prim.Native.Nat.{ℕ}
 use mathlib.Core.List.{List}
-use lib.IntN.{ℤ}
 use lib.Ieee.{Float}
 use Rattle.answers.specs.Answer.{codeOf, Built, mapBuilt}
 use Rattle.answers.specs.Coded.{onAt, switchOf, Coded, codedNew}
 use Rattle.answers.specs.declared.answer.Code.{Code}
 use Rattle.decoder_record.specs.State.{Pll}
-use Rattle.decoder_record_q15.specs.Fresh.{fraction}
 use Rattle.decoder.specs.Machine.{Blocked}
-use Rattle.matrix.specs.Matrix.{Matrixed}
 use Rattle.c_decoder.specs.declared.shared.Readout.{Readout}
 use Rattle.pilot_scan.specs.declared.Scanned.{Scanned}
 use Rattle.c_decoder.specs.declared.in_f32.DecoderF32.{DecoderF32}
 use Rattle.c_decoder.specs.declared.in_f32.ScannedF32.{ScannedF32}
-use Rattle.c_decoder.specs.declared.in_q15.DecoderQ15.{DecoderQ15}
 
 -- ---- the record: the fields in C's order
 pub record Decoder (A : Type 0) : Type 0 where
@@ -33,22 +29,6 @@ pub record Decoder (A : Type 0) : Type 0 where
 
 abbrev pub decoderF32 : DecoderF32 → Decoder Float
 decoderF32 d = record {
-  kp = d .kp;
-  ki = d .ki;
-  imax = d .imax;
-  beta = d .beta;
-  on = d .on;
-  off = d .off;
-  integ = d .integ;
-  level = d .level;
-  step0 = d .step0;
-  phase = d .phase;
-  stereo = d .stereo;
-  enabled = d .enabled;
-}
-
-abbrev pub decoderQ15 : DecoderQ15 → Decoder ℤ
-decoderQ15 d = record {
   kp = d .kp;
   ki = d .ki;
   imax = d .imax;
@@ -121,18 +101,6 @@ readBy turns level d = record {
 abbrev pub readF32 : Pll Float → Readout
 readF32 = readBy (λ x. x) (λ x. x)
 
-abbrev pub readQ15 : Pll ℤ → Readout
-readQ15 = readBy (fraction 64) (fraction 61)
-
 -- ---- the scan
 abbrev pub codedScan : Scanned → ScannedF32
 codedScan s = record { finite = switchOf (s .finite); read = s .read }
-
--- ---- the matrix: the answer's numbers and the outputs
-pub record CodedMatrix (A : Type 0) : Type 0 where
-  pub answer : Code
-  pub left : List A
-  pub right : List A
-
-abbrev pub codedMatrix : {A : Type 0} → Matrixed A → CodedMatrix A
-codedMatrix r = record { answer = codeOf (r .said); left = r .left; right = r .right }

@@ -1,27 +1,20 @@
--- What the encoders' calls give in C. Definitions only.
+-- What an encoder's calls give in C. Definitions only.
 use mathlib.Core.Bool.{false}
 use mathlib.Core.List.{List}
 use lib.IntN.{pos}
 use lib.Ieee.{Float, fin}
 use Rattle.answers.specs.Answer.{codeOf}
 use Rattle.answers.specs.declared.answer.Code.{Code}
-use Rattle.oscillator.specs.declared.nco.Nco.{Nco}
+use Rattle.c_oscillator.specs.CodedNco.{noNco}
 use Rattle.encoder_record.specs.declared.encode.StereoEncode.{StereoEncode}
-use Rattle.encoder_record.specs.declared.rds.StereoEncodeRds.{StereoEncodeRds}
 use Rattle.encoder.specs.Multiplex.{Encoded}
 
--- ---- records of zeros, which stand for what was not made
-abbrev zero : Float
+-- ---- the record of zeros, which stands for what was not made
+abbrev pub zero : Float
 zero = fin false 0 (pos 0)
-
-abbrev pub noNco : Nco
-noNco = record { phase = 0; inc = 0 }
 
 abbrev pub noEncode : StereoEncode
 noEncode = record { nco = noNco; main = zero; pilot = zero }
-
-abbrev pub noEncodeRds : StereoEncodeRds
-noEncodeRds = record { enc = noEncode; rds = zero }
 
 -- ---- a block: the answer's numbers, the output, and the next record
 pub record CodedBlock (E : Type 0) : Type 0 where

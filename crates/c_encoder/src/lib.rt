@@ -1,4 +1,4 @@
-// The oscillator, both encoders and the verdict under C names, for a program in Rust or C to call.
+// The encoder and the verdict under C names, for a program in Rust or C to call.
 // Records go in and out by value, a slice is a pointer and then a length, and answers are numbers,
 // as specs/Coded.antt defines them.
 use answers::switch::switch_of;
@@ -7,8 +7,6 @@ ghost use Rattle.answers.specs.Coded.{switchOf};
 ghost use Rattle.verdict.specs.Verdict.{onAirOf};
 
 mod encode;
-mod nco;
-mod rds;
 
 // 1 where the pilot may go on air, else 0.
 #[no_mangle]

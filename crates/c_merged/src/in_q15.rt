@@ -1,14 +1,15 @@
 // Left and right in Q15.
 use answers::answer::code_of;
-use c_decoder::in_q15::DecoderQ15;
-use c_decoder::in_q15::ReplyQ15;
-use c_decoder::in_q15::given;
-use c_decoder::in_q15::taken;
+use c_decoder_q15::in_q15::DecoderQ15;
+use c_decoder_q15::in_q15::ReplyQ15;
+use c_decoder_q15::in_q15::given;
+use c_decoder_q15::in_q15::taken;
 ghost use mathlib.Core.Path.{_≡_};
 ghost use Rattle.matrix.specs.Matrix.{filledQ15};
 ghost use Rattle.decoder_q15.specs.Q15.{q15};
 ghost use Rattle.merged.specs.Merged.{mergedOf};
-ghost use Rattle.c_decoder.specs.Coded.{decoderQ15, takenOf};
+ghost use Rattle.c_decoder.specs.Coded.{takenOf};
+ghost use Rattle.c_decoder_q15.specs.CodedQ15.{decoderQ15};
 ghost use Rattle.c_merged.specs.Coded.{codedMerged};
 
 // A merged block, the fast way.
@@ -31,7 +32,7 @@ pub extern "C" fn pescrondilu_q15_merged_block(
         (now (pilot .entry)) (now (left .entry)) (now (right .entry))) ⌝ }
 {
     let before = taken(d);
-    let reply = merged::in_q15::block(before, table, mpx, pilot, left, right);
+    let reply = merged_q15::in_q15::block(before, table, mpx, pilot, left, right);
     let said = reply.answer;
     let next = reply.decoder;
     ReplyQ15 {

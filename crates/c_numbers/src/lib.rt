@@ -1,9 +1,9 @@
 // The number helpers, the lookups and the corrections under C names, so that they can be compared
 // with the Rust by themselves. Each function has the contract of the one that it calls. A slice is a
 // pointer and then a length.
-use numbers::scale::Q14;
+use lookup::lookup::Pair;
 use phase::correction::Corrected;
-use phase::lookup::Pair;
+use scale::scale::Q14;
 ghost use mathlib.Core.Path.{_≡_};
 ghost use Prim.Native.Nat.{_^_};
 ghost use lib.IntN.{pos, _*ℤ_};
@@ -14,8 +14,8 @@ ghost use Rattle.numbers.specs.Integers.{sat16Of, roundShiftOf, modZ, phaseTime
 ghost use Rattle.numbers.specs.Integers.{q15MulOf, q15AddOf, q15SubOf};
 ghost use Rattle.floats.specs.Floats.{floorOf, halfEvenOf, toFormat};
 ghost use Rattle.numbers.specs.Flush.{flushOf};
-ghost use Rattle.numbers.specs.Scaled.{scaledOf, q15FromOf, q14FromOf};
-ghost use Rattle.phase.specs.Lookup.{cosF32, pairF32, cosQ15};
+ghost use Rattle.scale.specs.Scaled.{scaledOf, q15FromOf, q14FromOf};
+ghost use Rattle.lookup.specs.Lookup.{cosF32, pairF32, cosQ15};
 ghost use Rattle.phase.specs.Correction.{correctionOf, quickServes, correctedOf};
 ghost use Rattle.answers.specs.Coded.{codedNew};
 
@@ -128,21 +128,21 @@ pub extern "C" fn pescrondilu_f64_to_i64(x: f64) -> i64
 pub extern "C" fn pescrondilu_f32_to_f64(x: f32) -> f64
     ensures { λ r. ⌜ r ≡ x ⌝ }
 {
-    floats::bits::f32_to_f64(x)
+    finite::finite::f32_to_f64(x)
 }
 
 #[no_mangle]
 pub extern "C" fn pescrondilu_is_finite_f32(x: f32) -> bool
     ensures { λ r. ⌜ r ≡ finite x ⌝ }
 {
-    floats::bits::is_finite_f32(x)
+    finite::finite::is_finite_f32(x)
 }
 
 #[no_mangle]
 pub extern "C" fn pescrondilu_is_finite_f64(x: f64) -> bool
     ensures { λ r. ⌜ r ≡ finite x ⌝ }
 {
-    floats::bits::is_finite_f64(x)
+    finite::finite::is_finite_f64(x)
 }
 
 #[no_mangle]
@@ -156,21 +156,21 @@ pub extern "C" fn pescrondilu_flush_denormal(x: f32) -> f32
 pub extern "C" fn pescrondilu_floor_scaled(x: f64, scale: f64) -> i64
     ensures { λ r. ⌜ r ≡ scaledOf x scale ⌝ }
 {
-    numbers::scale::floor_scaled(x, scale)
+    scale::scale::floor_scaled(x, scale)
 }
 
 #[no_mangle]
 pub extern "C" fn pescrondilu_q15_from_f64(x: f64) -> i16
     ensures { λ r. ⌜ r ≡ q15FromOf x ⌝ }
 {
-    numbers::scale::q15_from_f64(x)
+    scale::scale::q15_from_f64(x)
 }
 
 #[no_mangle]
 pub extern "C" fn pescrondilu_q14_from_f64(x: f64) -> CodedQ14
     ensures { λ r. ⌜ record { code = r .code; value = r .value } ≡ codedNew (pos 0) (q14FromOf x) ⌝ }
 {
-    match numbers::scale::q14_from_f64(x) {
+    match scale::scale::q14_from_f64(x) {
         Q14::Value(value) => CodedQ14 { code: 0, value },
         Q14::Outside => CodedQ14 {
             code: 118,
@@ -183,28 +183,28 @@ pub extern "C" fn pescrondilu_q14_from_f64(x: f64) -> CodedQ14
 pub extern "C" fn pescrondilu_cos_f32(table: &[f32], p: u32) -> f32
     ensures { λ r. ⌜ r ≡ cosF32 (now (table .entry)) p ⌝ }
 {
-    phase::lookup::cos_f32(table, p)
+    lookup::lookup::cos_f32(table, p)
 }
 
 #[no_mangle]
 pub extern "C" fn pescrondilu_interp_f32_pair(table: &[f32], p: u32) -> Pair
     ensures { λ r. ⌜ r ≡ pairF32 (now (table .entry)) p ⌝ }
 {
-    phase::lookup::interp_f32_pair(table, p)
+    lookup::lookup::interp_f32_pair(table, p)
 }
 
 #[no_mangle]
 pub extern "C" fn pescrondilu_cos_q15(table: &[i16], p: u32) -> i16
     ensures { λ r. ⌜ r ≡ cosQ15 (now (table .entry)) p ⌝ }
 {
-    phase::lookup::cos_q15(table, p)
+    lookup_q15::in_q15::cos_q15(table, p)
 }
 
 #[no_mangle]
 pub extern "C" fn pescrondilu_interp_q15(table: &[i16], p: u32) -> i32
     ensures { λ r. ⌜ r ≡ cosQ15 (now (table .entry)) p ⌝ }
 {
-    phase::lookup::interp_q15(table, p)
+    lookup_q15::in_q15::interp_q15(table, p)
 }
 
 #[no_mangle]

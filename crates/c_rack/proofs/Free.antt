@@ -2,9 +2,7 @@
 -- show, by F's `requires`. Assumes nothing.
 use mathlib.Core.Path.{_≡_, refl}
 use Rattle.c_rack.proofs.in_f32.pescrondilu_f32_rack_round.Reads as f32-round
-use Rattle.c_rack.proofs.in_q15.pescrondilu_q15_rack_round.Reads as q15-round
 
 pub nothing-asked :
-    (f32-round.Asked ≡ λ κs a. Unit {0})
-    × (q15-round.Asked ≡ λ κs a. Unit {0})
-nothing-asked = (refl, refl)
+    f32-round.Asked ≡ λ κs a. Unit {0}
+nothing-asked = refl

@@ -10,8 +10,8 @@ ghost use mathlib.Core.Path.{_≡_};
 ghost use mathlib.Core.List.{map};
 ghost use Rattle.decoder_record.specs.Records.{pllF32};
 ghost use Rattle.decoder.specs.F32.{f32};
-ghost use Rattle.rack.specs.Flat.{queuesOf, flatOf};
-ghost use Rattle.rack.specs.Wide.{roundWide};
+ghost use Rattle.rack_round.specs.Flat.{queuesOf, flatOf};
+ghost use Rattle.rack_round.specs.Wide.{roundWide};
 ghost use Rattle.c_decoder.specs.Coded.{decoderF32, takenOf, givenOf};
 ghost use Rattle.c_rack.specs.Coded.{codedRound};
 

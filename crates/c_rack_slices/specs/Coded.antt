@@ -3,7 +3,7 @@ use Prim.Native.Nat.{ℕ}
 use mathlib.Core.List.{List, map}
 use Rattle.answers.specs.Answer.{codeOf}
 use Rattle.answers.specs.declared.answer.Code.{Code}
-use Rattle.rack_slices.specs.Slices.{Sliced}
+use Rattle.rack_slices_round.specs.Slices.{Sliced}
 use Rattle.c_decoder.specs.Coded.{Decoder, givenOf}
 
 -- the answer's numbers, how many samples each decoder took, the slices of both outputs, the next records, and

@@ -7,8 +7,8 @@ use c_rack::in_f32::all_taken;
 ghost use mathlib.Core.Path.{_≡_};
 ghost use mathlib.Core.List.{map};
 ghost use Rattle.decoder.specs.F32.{f32};
-ghost use Rattle.rack.specs.Wide.{roundWide};
-ghost use Rattle.rack_slices.specs.Slices.{addressesOf, queuesAt, slicesOf};
+ghost use Rattle.rack_round.specs.Wide.{roundWide};
+ghost use Rattle.rack_slices_round.specs.Slices.{addressesOf, queuesAt, slicesOf};
 ghost use Rattle.c_decoder.specs.Coded.{decoderF32, takenOf};
 ghost use Rattle.c_rack_slices.specs.Coded.{codedSlices};
 

@@ -2,4 +2,3 @@
 // records are those of c_rack, and go in and out by value; answers are numbers, as specs/Coded.antt defines
 // them.
 mod in_f32;
-mod in_q15;

@@ -8,7 +8,7 @@ use rds::former::RdsWords;
 use rds::former::group_code;
 ghost use mathlib.Core.Path.{_≡_};
 ghost use Rattle.answers.specs.Coded.{onAt, switchOf};
-ghost use Rattle.rds.specs.Division.{remainderOf};
+ghost use Rattle.rds_blocks.specs.Division.{remainderOf};
 ghost use Rattle.rds.specs.Former.{fresh, groupOf};
 ghost use Rattle.c_rds.specs.Coded.{codedGroup};
 
@@ -30,7 +30,7 @@ pub struct FormerReply {
 pub extern "C" fn pescrondilu_rds_remainder(number: u32) -> u32
     ensures { λ r. ⌜ r ≡ remainderOf number ⌝ }
 {
-    rds::division::remainder(number)
+    rds_blocks::division::remainder(number)
 }
 
 #[no_mangle]

@@ -3,12 +3,8 @@
 use mathlib.Core.Path.{_≡_, refl}
 use Rattle.c_summary.proofs.in_f32.pescrondilu_f32_summary_new.Reads as new-f32
 use Rattle.c_summary.proofs.in_f32.pescrondilu_f32_summary_block.Reads as block-f32
-use Rattle.c_summary.proofs.in_q15.pescrondilu_q15_summary_new.Reads as new-q15
-use Rattle.c_summary.proofs.in_q15.pescrondilu_q15_summary_block.Reads as block-q15
 
 pub nothing-asked :
     (new-f32.Asked ≡ λ κs a. Unit {0})
     × (block-f32.Asked ≡ λ κs a. Unit {0})
-    × (new-q15.Asked ≡ λ κs a. Unit {0})
-    × (block-q15.Asked ≡ λ κs a. Unit {0})
-nothing-asked = (refl, refl, refl, refl)
+nothing-asked = (refl, refl)

@@ -1,16 +1,14 @@
 -- A summary's record in C, over the format, and what the calls give. Definitions only.
 use Prim.Native.Nat.{ℕ}
 use mathlib.Core.List.{List}
-use lib.IntN.{ℤ}
 use lib.Ieee.{Float}
 use Rattle.answers.specs.Answer.{codeOf}
 use Rattle.answers.specs.Coded.{onAt, switchOf}
 use Rattle.answers.specs.declared.answer.Code.{Code}
 use Rattle.summary_record.specs.Record.{Summary}
-use Rattle.summary.specs.Summary.{Columns, Summarized}
+use Rattle.summary_call.specs.Summary.{Columns, Summarized}
 use Rattle.c_decoder.specs.Coded.{Decoder, givenOf}
 use Rattle.c_summary.specs.declared.in_f32.SummaryRecordF32.{SummaryRecordF32}
-use Rattle.c_summary.specs.declared.in_q15.SummaryRecordQ15.{SummaryRecordQ15}
 
 -- ---- the record: the fields in C's order
 pub record SummaryRecord (A : Type 0) : Type 0 where
@@ -23,16 +21,6 @@ pub record SummaryRecord (A : Type 0) : Type 0 where
 
 abbrev pub recordF32 : SummaryRecordF32 → SummaryRecord Float
 recordF32 s = record {
-  period = s .period;
-  stereo = s .stereo;
-  mono = s .mono;
-  changes = s .changes;
-  magnitude = s .magnitude;
-  before = s .before;
-}
-
-abbrev pub recordQ15 : SummaryRecordQ15 → SummaryRecord ℤ
-recordQ15 s = record {
   period = s .period;
   stereo = s .stereo;
   mono = s .mono;

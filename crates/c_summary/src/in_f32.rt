@@ -11,7 +11,7 @@ use summary_record::in_f32::SummaryF32;
 ghost use mathlib.Core.Path.{_≡_};
 ghost use Rattle.decoder.specs.F32.{f32};
 ghost use Rattle.counted.specs.Counted.{numberIn};
-ghost use Rattle.summary.specs.Summary.{summaryOf};
+ghost use Rattle.summary_call.specs.Summary.{summaryOf};
 ghost use Rattle.summary.specs.Wide.{summaryCount};
 ghost use Rattle.summary_record.specs.Record.{freshSummary};
 ghost use Rattle.summary_record.specs.F32.{unsignedF32, summaryF32};

@@ -2,4 +2,3 @@
 // those of c_decoder, and all records go in and out by value; answers are numbers, as specs/Coded.antt
 // defines them.
 mod in_f32;
-mod in_q15;

@@ -13,7 +13,7 @@ use Rattle.decoder_record.specs.State.{Pll, enabledOf, resetOf}
 use Rattle.decoder.specs.Machine.{Arithmetic, Blocked, runOf, blockOf}
 use Rattle.merged.specs.Merged.{mergedBy, Merged, mergedOf}
 use Rattle.summary_record.specs.Record.{Summary}
-use Rattle.summary.specs.Summary.{Columns, columnsOf, Outcome, Running, Summarized, begun, through, summarySays, summaryRun, summaryOf}
+use Rattle.summary_call.specs.Summary.{Columns, columnsOf, Outcome, Running, Summarized, begun, through, summarySays, summaryRun, summaryOf}
 use Rattle.summary_record.proofs.Fits.{Unsigned}
 use Rattle.calls.specs.Events.{Event, after}
 use Rattle.calls.specs.Calls.{Core, Brought, Call, block, merged, summary, enable, disable, reset, Left, leaving, leavingSummary, done, callOf, machine, final, events}

@@ -16,7 +16,7 @@ use Rattle.decoder.specs.Machine.{Arithmetic, Blocked, blockSays}
 use Rattle.merged.specs.Merged.{Merged, mergedOf}
 use Rattle.summary_counts.specs.Counts.{placesOf}
 use Rattle.summary_record.specs.Record.{Summary, summaryFit}
-use Rattle.summary.specs.Summary.{Columns, Summarized, summarySays}
+use Rattle.summary_call.specs.Summary.{Columns, Summarized, summarySays}
 use Rattle.calls.specs.Calls.{Core, Brought, Call, block, merged, summary, enable, disable, reset, Left, leaving, done}
 use Rattle.calls.specs.Demand.{Place, lent, Answered, BlockLearnt, SummaryLearnt, Decoder, Format, Leaves, MatrixOf, LeavesSummary, SummaryBy, firstOf, plainDecoder, fastDecoder, May, Runs}
 use Rattle.calls.proofs.Steps.{saysOf, ownBlock, block-said, ownSummary, summary-said, outcomesIn, steps-shown}

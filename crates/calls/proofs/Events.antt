@@ -10,7 +10,7 @@ use Rattle.decoder_record.specs.State.{Pll}
 use Rattle.decoder.specs.Machine.{Arithmetic, Blocked, stateAt, runOf, blockSays, blockOf}
 use Rattle.merged.specs.Merged.{mergedOf}
 use Rattle.summary_record.specs.Record.{Summary}
-use Rattle.summary.specs.Summary.{Columns, Summarized, summarySays, summaryRun, summaryOf}
+use Rattle.summary_call.specs.Summary.{Columns, Summarized, summarySays, summaryRun, summaryOf}
 use Rattle.calls.specs.Events.{Event, sample, eventOf, after}
 use Rattle.calls.specs.Calls.{Core, Brought, Call, block, merged, summary, enable, disable, reset, callOf, samplesOf, eventsOf, final, events}
 

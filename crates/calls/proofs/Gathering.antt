@@ -12,9 +12,9 @@ use Rattle.decoder_record.specs.State.{Pll, enabledOf, resetOf}
 use Rattle.decoder.specs.Machine.{Arithmetic, Stepped, stepOf, stepAt, runOf}
 use Rattle.summary_counts.specs.Counts.{heldOf, fullOf, emptied}
 use Rattle.summary_record.specs.Record.{Summary}
-use Rattle.summary.specs.Summary.{Outcome, outcomeOf, Figures, figuresOf, Columns, columnsOf, Running, Summarized, noted, nextOf, through, begun, summaryRun, summaryOf}
+use Rattle.summary_call.specs.Summary.{Outcome, outcomeOf, Figures, figuresOf, Columns, columnsOf, Running, Summarized, noted, nextOf, through, begun, summaryRun, summaryOf}
 use Rattle.summary_record.proofs.Fits.{Unsigned, Fitted}
-use Rattle.summary.proofs.Fits.{fit-next}
+use Rattle.summary_call.proofs.Fits.{fit-next}
 use Rattle.calls.specs.Events.{Event, sample, switch, clear, eventOf, after}
 use Rattle.calls.specs.Calls.{Core, Brought, Call, block, merged, summary, enable, disable, reset, callOf, samplesOf, eventsOf, machine, events}
 use Rattle.calls.specs.Summaries.{summarizes, summaryIn, Gathered, none, outputsOf, followed, Brings, gathered, lastSummary, HandedOn, Marked, marked, stepsOf, rawOf}

@@ -8,6 +8,3 @@ pub mod Allowed
 pub mod Periods
 pub mod Gathering
 pub mod Summaries
-pub mod Functions
-pub mod Witness
-pub mod Demand

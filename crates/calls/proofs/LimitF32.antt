@@ -18,7 +18,7 @@ use Rattle.rounding.proofs.Finite.{eq-zero}
 use Rattle.rounding.proofs.Order.{le-of-not-lt, le-self, neg-real, add-real, mul-real, mul-real', nonzero, between-finite}
 use Rattle.floats.specs.Floats.{absOf, toFormat, inRange}
 use Rattle.numbers.specs.Flush.{flushOf, tiny}
-use Rattle.phase.specs.Lookup.{cosF32, fracF32}
+use Rattle.lookup.specs.Lookup.{cosF32, fracF32}
 use Rattle.answers.specs.Answer.{made}
 use Rattle.answers.proofs.Tests.{and-out}
 use Rattle.decoder_gains.specs.Gains.{Gains, nought, narrows, allNarrow, gainsOf}

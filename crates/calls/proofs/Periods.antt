@@ -12,7 +12,7 @@ use lib.Seq.{length-take-le, take-add, drop-drop}
 use Rattle.decoder.specs.Machine.{Arithmetic}
 use Rattle.summary_counts.specs.Counts.{heldOf, unlike, countedOf, fullOf, emptied}
 use Rattle.summary_record.specs.Record.{Summary, freshSummary}
-use Rattle.summary.specs.Summary.{Outcome, Figures, figuresOf, Running, noted, nextOf, through, begun}
+use Rattle.summary_call.specs.Summary.{Outcome, Figures, figuresOf, Running, noted, nextOf, through, begun}
 use Rattle.summary_counts.proofs.Fits.{one-more}
 use Rattle.calls.specs.Periods.{decided, changesFrom, lastFrom, largestFrom, figuresFrom, wholePeriods, finishedOf, unfinishedOf}
 

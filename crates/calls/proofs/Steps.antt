@@ -16,7 +16,7 @@ use Rattle.decoder_record.specs.State.{Pll}
 use Rattle.decoder.specs.Machine.{Arithmetic, Stepped, Blocked, stepOf, stateAt, stepAt, runOf, lengthCauses, blockSays, blockOf}
 use Rattle.decoder.proofs.Loops.{lengths-equal}
 use Rattle.summary_record.specs.Record.{Summary, summaryFit}
-use Rattle.summary.specs.Summary.{Columns, Outcome, outcomeOf, Summarized, summarySays, summaryRun, summaryOf}
+use Rattle.summary_call.specs.Summary.{Columns, Outcome, outcomeOf, Summarized, summarySays, summaryRun, summaryOf}
 use Rattle.calls.specs.Calls.{Brought, block, Left, leaving, callOf}
 use Rattle.calls.specs.Demand.{Format, seen, firstOf, Shows}
 use Rattle.calls.specs.Summaries.{firstIn, secondIn}

@@ -9,7 +9,7 @@ use Rattle.answers.proofs.Causes.{none-yet}
 use Rattle.decoder_record.specs.State.{Pll}
 use Rattle.decoder.specs.Machine.{Arithmetic}
 use Rattle.summary_record.specs.Record.{Summary, freshSummary, summaryFit}
-use Rattle.summary.specs.Summary.{Outcome, outcomeOf, Figures, Columns, columnsOf, Running, through, begun, summaryRun}
+use Rattle.summary_call.specs.Summary.{Outcome, outcomeOf, Figures, Columns, columnsOf, Running, through, begun, summaryRun}
 use Rattle.summary_record.proofs.Fits.{Unsigned, fitted, fit-in}
 use Rattle.calls.specs.Events.{after}
 use Rattle.calls.specs.Calls.{Core, Brought, Call, Left, events}

@@ -10,7 +10,7 @@ use Rattle.decoder_record.specs.State.{Pll, enabledOf, resetOf}
 use Rattle.decoder.specs.Machine.{Arithmetic, blockOf}
 use Rattle.merged.specs.Merged.{mergedOf}
 use Rattle.summary_record.specs.Record.{Summary}
-use Rattle.summary.specs.Summary.{Columns, summaryOf}
+use Rattle.summary_call.specs.Summary.{Columns, summaryOf}
 use Rattle.calls.specs.Events.{Event, sample, switch, clear}
 
 -- a format: its arithmetic, its matrix, and which magnitudes a summary may hold

@@ -17,7 +17,7 @@ use Rattle.decoder_record.specs.State.{Pll}
 use Rattle.decoder.specs.Machine.{Arithmetic}
 use Rattle.merged.specs.Merged.{mergedBy}
 use Rattle.summary_record.specs.Record.{Summary}
-use Rattle.summary.specs.Summary.{Columns, columnsOf, Outcome, Running, begun, through, summarySays}
+use Rattle.summary_call.specs.Summary.{Columns, columnsOf, Outcome, Running, begun, through, summarySays}
 use Rattle.calls.specs.Events.{Event, history, Locked}
 use Rattle.calls.specs.Calls.{Core, Brought, Call, block, merged, summary, enable, disable, reset, Left, leaving, leavingSummary, done, machine, final, events}
 

@@ -7,7 +7,7 @@ use lib.ListN.{length, take, drop}
 use Rattle.decoder.specs.Machine.{Arithmetic}
 use Rattle.summary_counts.specs.Counts.{unlike}
 use Rattle.summary_record.specs.Record.{Summary, largerOf}
-use Rattle.summary.specs.Summary.{Outcome, Figures}
+use Rattle.summary_call.specs.Summary.{Outcome, Figures}
 
 module _ {A : Type 0} where
   -- the samples with this decision

@@ -8,7 +8,7 @@ use Rattle.answers.specs.Answer.{accepts}
 use Rattle.decoder_record.specs.State.{Pll, enabledOf, resetOf}
 use Rattle.decoder.specs.Machine.{Arithmetic, Stepped, stepOf}
 use Rattle.summary_record.specs.Record.{Summary, freshSummary, summaryFit}
-use Rattle.summary.specs.Summary.{Columns, columnsOf, Outcome, outcomeOf}
+use Rattle.summary_call.specs.Summary.{Columns, columnsOf, Outcome, outcomeOf}
 use Rattle.calls.specs.Events.{Event, sample, switch, clear}
 use Rattle.calls.specs.Calls.{Core, Brought, Call, block, merged, summary, enable, disable, reset, Output, signal, summaries, Left, leaving, callOf, eventsOf}
 use Rattle.calls.specs.Periods.{finishedOf, unfinishedOf}

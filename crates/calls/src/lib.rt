@@ -1,1 +1,1 @@
-// Lists of calls: definitions (specs/) and the proof of demand 3 (proofs/). No code.
+// Lists of calls: definitions (specs/) and laws (proofs/). No code.

@@ -4,9 +4,9 @@ use lib.Ieee.{round, add, sub, mul, neg, toSigned}
 use Rattle.rounding.specs.Cut.{restOf, cutBy}
 use Rattle.numbers.specs.Integers.{sat16Of, roundShiftOf}
 use Rattle.floats.specs.Floats.{wholeOf}
-use Rattle.numbers.specs.Scaled.{scaledOf}
+use Rattle.scale.specs.Scaled.{scaledOf}
 use Rattle.answers.specs.Samples.{samples}
-use Rattle.phase.specs.Lookup.{betweenQ15, cosQ15, cosF32}
+use Rattle.lookup.specs.Lookup.{betweenQ15, cosQ15, cosF32}
 use Rattle.phase.specs.Correction.{correctionOf}
 use Rattle.matrix.specs.Matrix.{leftQ15, rightQ15}
 use Rattle.encoder.specs.Multiplex.{multiplexOf}

@@ -8,13 +8,13 @@ use lib.ListN.{replicate}
 use lib.IntN.{ℤ, pos, negsuc}
 use lib.Ieee.{Float, nan, inf, fin}
 use Rattle.answers.specs.Answer.{accepted, entries}
-use Rattle.phase.specs.Lookup.{cosQ15}
+use Rattle.lookup.specs.Lookup.{cosQ15}
 use Rattle.phase.specs.Correction.{correctionOf}
 use Rattle.matrix.specs.Matrix.{leftQ15, rightQ15}
 use Rattle.encoder.specs.Multiplex.{multiplexOf}
 use Rattle.decoder_record.specs.State.{Pll}
 use Rattle.decoder_q15.specs.Q15.{q15}
-use Rattle.calls.specs.Cores.{coreQ15}
+use Rattle.demand.specs.Cores.{coreQ15}
 use Rattle.calls.specs.Calls.{Brought, Call, block, merged, Left, leaving, machine}
 
 -- a row: what is asked, and what document 01 says

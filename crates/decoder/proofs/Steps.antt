@@ -3,7 +3,7 @@ use Prim.Native.Nat.{ℕ}
 use mathlib.Core.Path.{_≡_, refl}
 use mathlib.Core.Bool.{Bool, _&&_, cond}
 use mathlib.Core.List.{List}
-use Rattle.phase.specs.Lookup.{sineAt}
+use Rattle.lookup.specs.Lookup.{sineAt}
 use Rattle.decoder_record.specs.State.{Pll, movedTo}
 use Rattle.decoder_parts.specs.Rules.{phaseAfter}
 use Rattle.decoder.specs.Machine.{Arithmetic, decide, limited, advancedBy, stepOf}

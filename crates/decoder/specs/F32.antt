@@ -4,7 +4,7 @@ use mathlib.Core.Bool.{true, false}
 use lib.IntN.{pos}
 use lib.Ieee.{Float, fin, binary32, add, mul, lt, neg}
 use lib.Ieee.Scale.{finite}
-use Rattle.phase.specs.Lookup.{cosF32}
+use Rattle.lookup.specs.Lookup.{cosF32}
 use Rattle.phase.specs.Correction.{correctionOf}
 use Rattle.decoder_parts.specs.Rules.{reachesF32, levelF32, accumulateF32}
 use Rattle.decoder.specs.Machine.{Arithmetic}

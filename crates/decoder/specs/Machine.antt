@@ -5,7 +5,7 @@ use Prim.Native.Nat.{ℕ, zero, suc}
 use mathlib.Core.Bool.{Bool, _&&_, cond}
 use mathlib.Core.List.{List, [], _∷_}
 use lib.ListN.{length, getD}
-use Rattle.phase.specs.Lookup.{sineAt}
+use Rattle.lookup.specs.Lookup.{sineAt}
 use Rattle.answers.specs.Answer.{Said, accepted, rule, tableRule, inputRule, outputRule, firstCause, kept}
 use Rattle.answers.specs.Samples.{samples}
 use Rattle.decoder_record.specs.State.{Pll, movedTo}

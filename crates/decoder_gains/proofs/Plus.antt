@@ -20,7 +20,7 @@ use Rattle.rounding.proofs.Lin.{le-yes-in}
 use Rattle.rounding.proofs.Round.{exact-at}
 use Rattle.rounding.proofs.Value.{toSigned-whole}
 use Rattle.floats.specs.Floats.{wholeOf, floorOf}
-use Rattle.numbers.specs.Scaled.{scaledOf}
+use Rattle.scale.specs.Scaled.{scaledOf}
 use Rattle.decoder_gains.specs.Gains.{power, nought}
 
 -- ---- no minus sign: 0 or above, plus infinity, or a NaN

@@ -10,7 +10,7 @@ use lib.Ieee.Scale.{finite}
 use Rattle.answers.specs.Answer.{Said, rule, firstCause, Built, made, refused, builtBy}
 use Rattle.numbers.specs.Integers.{modZ}
 use Rattle.floats.specs.Floats.{nearest, toFormat, positive, inRange}
-use Rattle.numbers.specs.Scaled.{scaledOf}
+use Rattle.scale.specs.Scaled.{scaledOf}
 use Rattle.decoder_gains.specs.declared.LoopGains.{LoopGains}
 use Rattle.decoder_gains.specs.declared.Checked.{Checked}
 use Rattle.decoder_gains.specs.declared.Checked.the-variants.{Good, Refused}

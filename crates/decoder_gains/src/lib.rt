@@ -1,9 +1,9 @@
 // Construction of a decoder, what both formats share: the gains in f64 and the causes 1 to 6.
+use finite::finite::is_finite_f32;
+use finite::finite::is_positive_f64;
 use floats::bits::f64_to_f32;
-use floats::bits::is_finite_f32;
-use floats::bits::is_positive_f64;
 use numbers::fixed::low32;
-use numbers::scale::floor_scaled;
+use scale::scale::floor_scaled;
 ghost use mathlib.Core.Path.{_≡_};
 ghost use Rattle.decoder_gains.specs.Gains.{gainsOf, narrows, allNarrow, commonOf, gains, saysCommon};
 

@@ -11,8 +11,6 @@ use Rattle.decoder_parts.proofs.in_f32.demodulated.Reads as demodulated
 use Rattle.decoder_parts.proofs.in_f32.error_of.Reads as error-of
 use Rattle.decoder_parts.proofs.in_f32.level_of.Reads as level-of
 use Rattle.decoder_parts.proofs.in_f32.stereo_of.Reads as stereo-of
-use Rattle.decoder_parts.proofs.in_q15.decided.Reads as in-q15-decided
-use Rattle.decoder_parts.proofs.in_q15.selected.Reads as selected
 
 pub nothing-asked :
     (phase-after.Asked ≡ λ κs a. Unit {0})
@@ -25,6 +23,4 @@ pub nothing-asked :
     × (error-of.Asked ≡ λ κs a. Unit {0})
     × (level-of.Asked ≡ λ κs a. Unit {0})
     × (stereo-of.Asked ≡ λ κs a. Unit {0})
-    × (in-q15-decided.Asked ≡ λ κs a. Unit {0})
-    × (selected.Asked ≡ λ κs a. Unit {0})
-nothing-asked = (refl, refl, refl, refl, refl, refl, refl, refl, refl, refl, refl, refl)
+nothing-asked = (refl, refl, refl, refl, refl, refl, refl, refl, refl, refl)

@@ -1,5 +1,5 @@
 // The parts of a sample's steps in f32 that take any numbers.
-use floats::bits::is_finite_f32;
+use finite::finite::is_finite_f32;
 use numbers::float::flush_denormal;
 ghost use mathlib.Core.Path.{_≡_};
 ghost use Rattle.decoder_parts.specs.Rules.{

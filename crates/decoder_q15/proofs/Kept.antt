@@ -13,8 +13,8 @@ use mir.Val.{SFits}
 use Rattle.answers.proofs.Tests.{and-out}
 use Rattle.rounding.proofs.Lin.{up, dn, add-law, up-neg, dn-neg, up-mul, dn-mul, lt-no, le-yes, le-yes-in, abs-out}
 use Rattle.numbers.proofs.Integers.{product-le}
-use Rattle.phase.specs.Lookup.{cosQ15, sineAt}
-use Rattle.phase.proofs.Between.{cosQ15-fits}
+use Rattle.lookup.specs.Lookup.{cosQ15, sineAt}
+use Rattle.lookup.proofs.Between.{cosQ15-fits}
 use Rattle.decoder_record.specs.State.{Pll}
 use Rattle.decoder_record_q15.specs.Fit.{withinZ, guardOf, fitQ15}
 use Rattle.decoder_record_q15.proofs.Ranges.{within-out, within-in}

@@ -9,8 +9,8 @@ use mir.Val.{SFits}
 use Rattle.rounding.proofs.Lin.{fits-abs}
 use Rattle.numbers.specs.Integers.{sat16Of, roundShiftOf}
 use Rattle.numbers.proofs.Integers.{product-le}
-use Rattle.phase.specs.Lookup.{sineAt, cosQ15}
-use Rattle.phase.proofs.Between.{cosQ15-fits}
+use Rattle.lookup.specs.Lookup.{sineAt, cosQ15}
+use Rattle.lookup.proofs.Between.{cosQ15-fits}
 use Rattle.decoder_record.specs.State.{Pll}
 use Rattle.decoder_parts.specs.Rules.{decideQ15}
 use Rattle.decoder.specs.Machine.{advancedBy, stepOf}

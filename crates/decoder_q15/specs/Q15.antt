@@ -6,7 +6,7 @@ use mathlib.Core.List.{List}
 use lib.IntN.{ℤ, pos, negℤ, _+ℤ_, _-ℤ_, _*ℤ_}
 use lib.Signed.{ltZ}
 use Rattle.numbers.specs.Integers.{sat16Of, roundShiftOf, modZ}
-use Rattle.phase.specs.Lookup.{cosQ15}
+use Rattle.lookup.specs.Lookup.{cosQ15}
 use Rattle.decoder_record_q15.specs.Fit.{fitQ15}
 use Rattle.decoder_parts.specs.Rules.{reachesQ15}
 use Rattle.decoder_record.specs.State.{Pll}

@@ -4,7 +4,7 @@ use answers::answer::Answer;
 use answers::answer::ENTRIES;
 use decoder::lengths::block_lengths;
 use decoder_parts::advance::phase_after;
-use decoder_parts::in_q15::decided;
+use decoder_parts_q15::in_q15::decided;
 use decoder_record_q15::pll_q15::StereoPllQ15;
 use numbers::fixed::low32;
 use numbers::fixed::round_shift;

@@ -2,13 +2,13 @@
 use decoder_gains::Checked;
 use decoder_gains::LoopGains;
 use decoder_gains::common;
-use floats::bits::f32_to_f64;
+use finite::finite::f32_to_f64;
 use floats::bits::f64_to_f32;
 ghost use mathlib.Core.Path.{_≡_};
 ghost use mathlib.Core.Bool.{true, false};
 ghost use Rattle.decoder_record.specs.State.{enabledOf, resetOf};
 ghost use Rattle.decoder_gains.specs.Gains.{nought, imaxHz, gains};
-ghost use Rattle.phase.specs.Lookup.{quarter};
+ghost use Rattle.lookup.specs.Lookup.{quarter};
 ghost use Rattle.decoder_record.specs.Fresh.{freshF32, newF32Of};
 ghost use Rattle.decoder_record.specs.Records.{pllF32, saysF32};
 
@@ -58,7 +58,7 @@ impl StereoPllF32 {
     // The integrator's limit and a quarter of a turn, as both formats have them.
     pub const IMAX_HZ: f64 = decoder_gains::IMAX_HZ;
 
-    pub const QUARTER: u32 = phase::lookup::QUARTER;
+    pub const QUARTER: u32 = lookup::lookup::QUARTER;
 
     pub fn imax_hz() -> f64
         ensures { λ r. ⌜ r ≡ imaxHz ⌝ }

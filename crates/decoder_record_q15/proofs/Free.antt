@@ -14,7 +14,6 @@ use Rattle.decoder_record_q15.proofs.pll_q15.StereoPllQ15.is_enabled.Re
 use Rattle.decoder_record_q15.proofs.pll_q15.StereoPllQ15.integrator.Reads as pll-q15-integrator
 use Rattle.decoder_record_q15.proofs.pll_q15.StereoPllQ15.integrator_limit.Reads as pll-q15-integrator-limit
 use Rattle.decoder_record_q15.proofs.pll_q15.StereoPllQ15.lock_level.Reads as pll-q15-lock-level
-use Rattle.decoder_record_q15.proofs.pll_q15.is_fit.Reads as is-fit
 
 pub nothing-asked :
     (guard-fits.Asked ≡ λ κs a. Unit {0})
@@ -30,5 +29,4 @@ pub nothing-asked :
     × (pll-q15-integrator.Asked ≡ λ κs a. Unit {0})
     × (pll-q15-integrator-limit.Asked ≡ λ κs a. Unit {0})
     × (pll-q15-lock-level.Asked ≡ λ κs a. Unit {0})
-    × (is-fit.Asked ≡ λ κs a. Unit {0})
-nothing-asked = (refl, refl, refl, refl, refl, refl, refl, refl, refl, refl, refl, refl, refl, refl)
+nothing-asked = (refl, refl, refl, refl, refl, refl, refl, refl, refl, refl, refl, refl, refl)

@@ -7,7 +7,7 @@ use lib.IntN.{ℤ, pos, negsuc}
 use lib.Ieee.{Float, fin, binary64, ofInt, add, mul, div, lt}
 use Rattle.answers.specs.Answer.{Said, rule, firstCause, Built, builtBy}
 use Rattle.floats.specs.Floats.{floorOf, absOf}
-use Rattle.numbers.specs.Scaled.{scaledOf}
+use Rattle.scale.specs.Scaled.{scaledOf}
 use Rattle.decoder_gains.specs.Gains.{Gains, power, gainsOf, causes}
 use Rattle.decoder_record.specs.State.{Pll, freshOf}
 use Rattle.decoder_record.specs.Fresh.{gainsBy}

@@ -1,3 +1,2 @@
-// The stereo decoder's Q15 record: construction, the calls that only set fields, the read-outs, and which
-// records a block takes.
+// The stereo decoder's Q15 record: construction, the calls that only set fields, the read-outs.
 pub mod pll_q15;

@@ -4,14 +4,14 @@ use decoder_gains::LoopGains;
 use decoder_gains::common;
 use floats::bits::floor_f64;
 use floats::bits::i64_to_f64;
-use numbers::scale::floor_scaled;
+use scale::scale::floor_scaled;
 ghost use mathlib.Core.Path.{_≡_};
 ghost use mathlib.Core.Bool.{true, false};
 ghost use lib.IntN.{pos};
 ghost use Rattle.decoder_record.specs.State.{enabledOf, resetOf};
-ghost use Rattle.decoder_record_q15.specs.Fit.{withinZ, fits64, guardOf, fitQ15};
+ghost use Rattle.decoder_record_q15.specs.Fit.{fits64, guardOf};
 ghost use Rattle.decoder_gains.specs.Gains.{imaxHz, gains};
-ghost use Rattle.phase.specs.Lookup.{quarter};
+ghost use Rattle.lookup.specs.Lookup.{quarter};
 ghost use Rattle.decoder_record_q15.specs.Fresh.{freshQ15, holds64, allHold, buildQ15, newQ15Of, fraction};
 ghost use Rattle.decoder_record_q15.specs.Records.{pllQ15, saysQ15};
 
@@ -120,7 +120,7 @@ impl StereoPllQ15 {
     // The integrator's limit and a quarter of a turn, as both formats have them.
     pub const IMAX_HZ: f64 = decoder_gains::IMAX_HZ;
 
-    pub const QUARTER: u32 = phase::lookup::QUARTER;
+    pub const QUARTER: u32 = lookup::lookup::QUARTER;
 
     pub fn imax_hz() -> f64
         ensures { λ r. ⌜ r ≡ imaxHz ⌝ }
@@ -203,30 +203,4 @@ impl StereoPllQ15 {
     {
         i64_to_f64(self.level) / TWO_61
     }
-}
-
-// The level's bounds: -2^61 - 2^30 and 2^61 + 2^30 - 1.
-const LEVEL_LOW: i64 = -2305843010287435776;
-
-const LEVEL_HIGH: i64 = 2305843010287435775;
-
-// Whether z is in lo..=hi.
-fn in_range(lo: i64, hi: i64, z: i64) -> bool
-    ensures { λ r. ⌜ r ≡ withinZ lo hi z ⌝ }
-{
-    (lo <= z) & (z <= hi)
-}
-
-// Whether a block takes the record; -imax would pass the largest i64 at the smallest one.
-pub fn is_fit(d: StereoPllQ15) -> bool
-    ensures { λ r. ⌜ r ≡ fitQ15 (pllQ15 d) ⌝ }
-{
-    let imax = d.imax;
-    if imax < 0 {
-        return false;
-    }
-    let gains = (d.kp >= 0) & (d.ki >= 0);
-    let guards = guard_fits(d.kp, imax) & guard_fits(d.ki, imax);
-    let level = in_range(0, 2147483648, d.beta) & in_range(LEVEL_LOW, LEVEL_HIGH, d.level);
-    gains & guards & in_range(-imax, imax, d.integ) & level
 }

@@ -6,19 +6,14 @@ use mathlib.Core.Bool.{true, false}
 use mathlib.Core.List.{List, [], _∷_}
 use lib.Ieee.{Float}
 use Rattle.answers.specs.Answer.{Said, accepts, entries, tableRule, inputRule, outputRule, kept}
-use Rattle.encoder.specs.Multiplex.{encodeSays, encodeRdsSays, Encoded}
+use Rattle.encoder.specs.Multiplex.{encodeSays, Encoded}
 use Rattle.answers.proofs.Causes.{each, length-is}
 
--- n is the length of left, and the others those of table, right, the RDS baseband and output
+-- n is the length of left, and the others those of table, right and output
 pub encode-lengths : (t n r o : ℕ) → accepts (encodeSays t n r o) ≡ true → (t ≡ entries) × (r ≡ n) × (o ≡ n)
 encode-lengths t n r o h =
     let x = each (tableRule t ∷ inputRule n r ∷ outputRule n o ∷ []) h in
     (length-is 9 entries t (x .0), length-is 10 n r (x .1 .0), length-is 11 n o (x .1 .1 .0))
-
-pub encode-rds-lengths : (t n r b o : ℕ) → accepts (encodeRdsSays t n r b o) ≡ true → (t ≡ entries) × (r ≡ n) × (b ≡ n) × (o ≡ n)
-encode-rds-lengths t n r b o h =
-    let x = each (tableRule t ∷ inputRule n r ∷ inputRule n b ∷ outputRule n o ∷ []) h in
-    (length-is 9 entries t (x .0), length-is 10 n r (x .1 .0), length-is 10 n b (x .1 .1 .0), length-is 11 n o (x .1 .1 .1 .0))
 
 module _ {E : Type 0} {s said : Said} (q : s ≡ said) where
   -- what a block leaves by its answer: the samples it made, and the next encoder

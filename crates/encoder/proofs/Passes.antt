@@ -1,4 +1,4 @@
--- An encoder's passes over its output: the subcarrier, sum and difference, the pilot; then RDS. Assumes nothing.
+-- The encoder's passes over its output: the subcarrier, sum and difference, the pilot. Assumes nothing.
 use Prim.Native.Nat.{ℕ}
 use mathlib.Core.Path.{_≡_, ap, _∙_}
 use mathlib.Core.List.{List}
@@ -6,8 +6,8 @@ use lib.ListN.{length, getD}
 use lib.Ieee.{Float, nan, binary32, add, mul}
 use Rattle.answers.specs.Samples.{samples}
 use Rattle.answers.proofs.Passes.{length-samples, pass-after}
-use Rattle.phase.specs.Lookup.{sineAt, cosF32}
-use Rattle.encoder.specs.Multiplex.{phaseAt, mixedOf, multiplexOf, multiplexRdsOf}
+use Rattle.lookup.specs.Lookup.{sineAt, cosF32}
+use Rattle.encoder.specs.Multiplex.{phaseAt, mixedOf, multiplexOf}
 use Rattle.encoder_record.specs.declared.encode.StereoEncode.{StereoEncode}
 
 -- `cosines` is the table
@@ -25,14 +25,3 @@ module _ (e : StereoEncode) (table left right : List Float) {n : ℕ} {cosines :
       let g : ℕ → Float → Float = λ i x. add binary32 x (mul binary32 (e .pilot) (cosF32 cosines (sineAt 1 (phaseAt e i)))) in
       let m : length mixed ≡ n = ap length b ∙ length-samples n (λ i. f i (getD carried i nan)) in
       (m, rw (← t) ((rw m at c) ∙ pass-after n (λ i. f i (s i)) g nan (b ∙ pass-after n s f nan (rw l at a))))
-
-  pub rds-added : (level : Float) (rds : List Float) {mixed out : List Float}
-      → length rds ≡ n
-      → mixed ≡ samples n (λ i. multiplexOf table (e .main) (e .pilot) (phaseAt e i) (getD left i nan) (getD right i nan))
-      → out ≡ samples (length rds) (λ i. add binary32 (getD mixed i nan) (mul binary32 (mul binary32 level (getD rds i nan)) (cosF32 cosines (sineAt 3 (phaseAt e i)))))
-      → out ≡ samples n (λ i. multiplexRdsOf table (e .main) (e .pilot) level (phaseAt e i) (getD left i nan) (getD right i nan) (getD rds i nan))
-  unfolding multiplexRdsOf
-  rds-added level rds l a b =
-      let f : ℕ → Float = λ i. multiplexOf table (e .main) (e .pilot) (phaseAt e i) (getD left i nan) (getD right i nan) in
-      let g : ℕ → Float → Float = λ i x. add binary32 x (mul binary32 (mul binary32 level (getD rds i nan)) (cosF32 table (sineAt 3 (phaseAt e i)))) in
-      (rw (l, t) at b) ∙ pass-after n f g nan a

@@ -1,18 +1,16 @@
--- The multiplex: one sample, and the encoders' blocks. Sources: ITU-R BS.450 (M, S on the subcarrier at twice
--- the pilot's phase, the pilot), IEC 62106 (RDS at three times); document 01, "`StereoEncode`", "Calls turned
--- back". Definitions only.
+-- The multiplex: one sample, and the encoder's block. Sources: ITU-R BS.450 (M, S on the subcarrier at twice
+-- the pilot's phase, the pilot); document 01, "`StereoEncode`", "Calls turned back". Definitions only.
 use Prim.Native.Nat.{ℕ, _+_, _*_, _%_, _^_}
 use mathlib.Core.Bool.{false}
 use mathlib.Core.List.{List, [], _∷_}
 use lib.ListN.{length, getD}
 use lib.IntN.{negsuc}
 use lib.Ieee.{Float, nan, fin, binary32, add, sub, mul}
-use Rattle.phase.specs.Lookup.{sineAt, cosF32}
+use Rattle.lookup.specs.Lookup.{sineAt, cosF32}
 use Rattle.answers.specs.Answer.{Said, firstCause, tableRule, inputRule, outputRule, kept}
 use Rattle.answers.specs.Samples.{samples}
-use Rattle.encoder_record.specs.Encode.{encodeAt, rdsAt}
+use Rattle.encoder_record.specs.Encode.{encodeAt}
 use Rattle.encoder_record.specs.declared.encode.StereoEncode.{StereoEncode}
-use Rattle.encoder_record.specs.declared.rds.StereoEncodeRds.{StereoEncodeRds}
 
 -- ---- one sample, at the pilot's phase p
 -- sum and difference: m and d are the sum and the difference of left and right, rounded, then halved; d is on
@@ -28,11 +26,6 @@ mixedOf main left right s2 =
 unfoldable pub multiplexOf : List Float → Float → Float → ℕ → Float → Float → Float
 multiplexOf t main pilot p left right =
     add binary32 (mixedOf main left right (cosF32 t (sineAt 2 p))) (mul binary32 pilot (cosF32 t (sineAt 1 p)))
-
--- with RDS: plus (level times b) times s3
-unfoldable pub multiplexRdsOf : List Float → Float → Float → Float → ℕ → Float → Float → Float → Float
-multiplexRdsOf t main pilot level p left right b =
-    add binary32 (multiplexOf t main pilot p left right) (mul binary32 (mul binary32 level b) (cosF32 t (sineAt 3 p)))
 
 -- ---- blocks: the pilot's phase before sample i
 abbrev pub phaseAt : StereoEncode → ℕ → ℕ
@@ -59,23 +52,4 @@ encodeOf e table left right output =
           (samples n (λ i. multiplexOf table (e .main) (e .pilot) (phaseAt e i) (getD left i nan) (getD right i nan)))
           output;
       encoder = kept said (encodeAt e (phaseAt e n)) e;
-    }
-
--- with RDS: 9, 10 for right, 10 for the RDS baseband, 11
-abbrev pub encodeRdsSays : ℕ → ℕ → ℕ → ℕ → ℕ → Said
-encodeRdsSays table left right rds output =
-    firstCause (tableRule table ∷ inputRule left right ∷ inputRule left rds ∷ outputRule left output ∷ [])
-
-abbrev pub encodeRdsOf : StereoEncodeRds
-    → List Float → List Float → List Float → List Float → List Float → Encoded StereoEncodeRds
-encodeRdsOf e table left right rds output =
-    let n = length left in
-    let said = encodeRdsSays (length table) n (length right) (length rds) (length output) in
-    record {
-      said = said;
-      output = kept said
-          (samples n (λ i. multiplexRdsOf table (e .enc .main) (e .enc .pilot) (e .rds) (phaseAt (e .enc) i)
-          (getD left i nan) (getD right i nan) (getD rds i nan)))
-          output;
-      encoder = kept said (rdsAt e (phaseAt (e .enc) n)) e;
     }

@@ -1,3 +1,2 @@
-// The multiplex encoders' blocks, without and with RDS.
-pub mod rds;
+// The multiplex encoder's block.
 pub mod stereo;

@@ -7,15 +7,15 @@ use answers::answer::table_rule;
 use answers::answer::then_input;
 use answers::answer::then_output;
 use encoder_record::encode::StereoEncode;
-use phase::lookup::cos_f32;
-use phase::lookup::sine_at;
-use phase::lookup::sine_at_twice;
+use lookup::lookup::cos_f32;
+use lookup::lookup::sine_at;
+use lookup::lookup::sine_at_twice;
 ghost use mathlib.Core.Path.{_≡_};
 ghost use lib.ListN.{length, getD};
 ghost use lib.Ieee.{nan, binary32, add, mul};
 ghost use Rattle.answers.specs.Answer.{says, entries};
 ghost use Rattle.answers.specs.Samples.{samples};
-ghost use Rattle.phase.specs.Lookup.{sineAt, cosF32};
+ghost use Rattle.lookup.specs.Lookup.{sineAt, cosF32};
 ghost use Rattle.encoder.specs.Multiplex.{mixedOf, multiplexOf, phaseAt, encodeOf};
 
 // What a block answers, and the encoder after it.
@@ -85,7 +85,7 @@ fn add_pilot(e: StereoEncode, table: &[f32], output: &mut [f32]) -> u32
 }
 
 // The table with its length written out, so that the compiler leaves the test out of each lookup.
-pub(crate) fn full_table(table: &[f32]) -> &[f32]
+fn full_table(table: &[f32]) -> &[f32]
     requires { ⌜ length (now table) ≡ entries ⌝ }
     ensures { λ r. ⌜ now r ≡ now (table .entry) ⌝ }
 {
@@ -94,13 +94,7 @@ pub(crate) fn full_table(table: &[f32]) -> &[f32]
 
 // The samples in order; the next phase comes back. Each lookup has a pass of its own, so that sum
 // and difference are mixed four samples at a time.
-pub(crate) fn run(
-    e: StereoEncode,
-    table: &[f32],
-    left: &[f32],
-    right: &[f32],
-    output: &mut [f32],
-) -> u32
+fn run(e: StereoEncode, table: &[f32], left: &[f32], right: &[f32], output: &mut [f32]) -> u32
     requires { ⌜ (length (now table) ≡ entries)
         × (length (now right) ≡ length (now left)) × (length (now output) ≡ length (now left)) ⌝ }
     ensures { λ r. ⌜ r ≡ phaseAt e (length (now (left .entry))) ⌝ ∗ ⌜ now (output .exit)

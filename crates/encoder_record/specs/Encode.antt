@@ -1,8 +1,8 @@
--- The encoders' records: construction and set calls. Sources: document 01, "`StereoEncode`", "Calls turned
+-- The encoder's record: construction and set calls. Sources: document 01, "`StereoEncode`", "Calls turned
 -- back". Definitions only.
 use Prim.Native.Nat.{ℕ}
 use mathlib.Core.Bool.{Bool, false}
-use mathlib.Core.List.{List, [], _∷_, _++_}
+use mathlib.Core.List.{List, [], _∷_}
 use lib.IntN.{pos}
 use lib.Ieee.{Float, fin, binary32, binary64, div, le}
 use Rattle.answers.specs.Answer.{Said, rule, firstCause, Built, made, refused, builtBy, Changed, changed, unchanged, changedBy}
@@ -13,11 +13,6 @@ use Rattle.encoder_record.specs.declared.encode.NewEncode.{NewEncode}
 use Rattle.encoder_record.specs.declared.encode.NewEncode.the-variants as new
 use Rattle.encoder_record.specs.declared.encode.SetEncode.{SetEncode}
 use Rattle.encoder_record.specs.declared.encode.SetEncode.the-variants as set
-use Rattle.encoder_record.specs.declared.rds.StereoEncodeRds.{StereoEncodeRds}
-use Rattle.encoder_record.specs.declared.rds.NewEncodeRds.{NewEncodeRds}
-use Rattle.encoder_record.specs.declared.rds.NewEncodeRds.the-variants as newRds
-use Rattle.encoder_record.specs.declared.rds.SetEncodeRds.{SetEncodeRds}
-use Rattle.encoder_record.specs.declared.rds.SetEncodeRds.the-variants as setRds
 
 -- ---- construction: the causes 1, 12, 13, 14, 15 in order, then 16
 abbrev zero : Float
@@ -47,29 +42,12 @@ unfoldable pub newOf : Float → Float → Float → Float → Built StereoEncod
 newOf frequency main pilot rate =
     builtBy (firstCause (causes frequency main pilot rate)) (encoderOf frequency main pilot rate)
 
--- with RDS
-unfoldable pub newRdsOf : Float → Float → Float → Float → Float → Built StereoEncodeRds
-newRdsOf frequency main pilot rds rate =
-    builtBy (firstCause (causes frequency main pilot rate ++ (rule 16 (goodLevel rds) ∷ [])))
-    (record { enc = encoderOf frequency main pilot rate; rds = rds })
-
 -- ---- set calls: a refused one leaves the old record
 abbrev pub setPilotOf : StereoEncode → Float → Changed StereoEncode
 setPilotOf e x = changedBy (rule 14 (goodLevel x)) (record { nco = e .nco; main = e .main; pilot = x }) e
 
-abbrev pub setRdsPilotOf : StereoEncodeRds → Float → Changed StereoEncodeRds
-setRdsPilotOf e x =
-    changedBy (rule 14 (goodLevel x))
-    (record { enc = record { nco = e .enc .nco; main = e .enc .main; pilot = x }; rds = e .rds }) e
-
-abbrev pub setRdsOf : StereoEncodeRds → Float → Changed StereoEncodeRds
-setRdsOf e x = changedBy (rule 16 (goodLevel x)) (record { enc = e .enc; rds = x }) e
-
 abbrev pub encodeAt : StereoEncode → ℕ → StereoEncode
 encodeAt e p = record { nco = phaseSet (e .nco) p; main = e .main; pilot = e .pilot }
-
-abbrev pub rdsAt : StereoEncodeRds → ℕ → StereoEncodeRds
-rdsAt e p = record { enc = encodeAt (e .enc) p; rds = e .rds }
 
 -- ---- the program's answers in document 01's terms
 abbrev pub saysNew : NewEncode → Built StereoEncode
@@ -79,11 +57,3 @@ saysNew (new.Refused n) = refused n
 abbrev pub saysSet : SetEncode → Changed StereoEncode
 saysSet (set.Done e) = changed e
 saysSet (set.Refused n e) = unchanged n e
-
-abbrev pub saysNewRds : NewEncodeRds → Built StereoEncodeRds
-saysNewRds (newRds.Made e) = made e
-saysNewRds (newRds.Refused n) = refused n
-
-abbrev pub saysSetRds : SetEncodeRds → Changed StereoEncodeRds
-saysSetRds (setRds.Done e) = changed e
-saysSetRds (setRds.Refused n e) = unchanged n e

@@ -1,5 +1,5 @@
 // The stereo multiplex encoder's record: construction, set calls and read-outs.
-use floats::bits::is_positive_f64;
+use finite::finite::is_positive_f64;
 use oscillator::nco::Nco;
 use oscillator::nco::increment_of;
 ghost use mathlib.Core.Path.{_≡_};

@@ -1,3 +1,2 @@
-// The multiplex encoders' records, without and with RDS: construction, set calls and read-outs.
+// The multiplex encoder's record: construction, set calls and read-outs.
 pub mod encode;
-pub mod rds;

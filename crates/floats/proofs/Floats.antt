@@ -26,22 +26,7 @@ use Rattle.rounding.proofs.Own.{round-own}
 use Rattle.rounding.proofs.Value.{toSigned-whole}
 use Rattle.rounding.proofs.Lin.{up-neg, dn-neg, sub-law', eq-in, abs-fits, abs-negℤ}
 use Rattle.floats.specs.Floats.{wholeOf}
-
--- ---- the digits of an f64, by the fields of its pattern
-pub digits-low : (b : ℕ) → b % 9223372036854775808 < 4503599627370496 → b % 4503599627370496 ≡ digits binary64 b
-digits-low b h = ap (λ (z : ℕ). sig binary64 z (b % 4503599627370496)) (sym (none b h))
-  where
-    none : (b : ℕ) → b % 9223372036854775808 < 4503599627370496 → b % 9223372036854775808 / 4503599627370496 ≡ 0
-    none b h = omega arith
-
-pub digits-high : (b : ℕ) → 4503599627370496 ≤ b % 9223372036854775808 → 4503599627370496 + b % 4503599627370496 ≡ digits binary64 b
-digits-high b h = sym (sig-is (field binary64 b) (b % 4503599627370496) (some b h))
-  where
-    some : (b : ℕ) → 4503599627370496 ≤ b % 9223372036854775808 → 0 < b % 9223372036854775808 / 4503599627370496
-    some b h = omega arith
-
-pub digits-lt : (b : ℕ) → digits binary64 b < 2 ^ 53
-digits-lt b = sig-lt binary64 (field binary64 b) (b % 4503599627370496) (mod-lt b (lit< tt))
+use Rattle.cuts.proofs.Digits.{digits-lt}
 
 halved : (d u : ℕ) → d < 2 ^ 53 → 2 ≤ u → d / u + 1 < 2 ^ 53
 halved zero u h k = omega (arith, div-le-self 0 u)

@@ -7,10 +7,6 @@ use Rattle.floats.proofs.bits.f64_to_f32.Reads as f64-to-f32
 use Rattle.floats.proofs.bits.i64_to_f64.Reads as i64-to-f64
 use Rattle.floats.proofs.bits.f64_to_i64.Reads as f64-to-i64
 use Rattle.floats.proofs.bits.floor_to_i64.Reads as floor-to-i64
-use Rattle.floats.proofs.bits.is_finite_f32.Reads as is-finite-f32
-use Rattle.floats.proofs.bits.is_finite_f64.Reads as is-finite-f64
-use Rattle.floats.proofs.bits.is_positive_f64.Reads as is-positive-f64
-use Rattle.floats.proofs.bits.f32_to_f64.Reads as f32-to-f64
 
 pub nothing-asked :
     (floor-f64.Asked ≡ λ κs a. Unit {0})
@@ -19,8 +15,4 @@ pub nothing-asked :
     × (i64-to-f64.Asked ≡ λ κs a. Unit {0})
     × (f64-to-i64.Asked ≡ λ κs a. Unit {0})
     × (floor-to-i64.Asked ≡ λ κs a. Unit {0})
-    × (is-finite-f32.Asked ≡ λ κs a. Unit {0})
-    × (is-finite-f64.Asked ≡ λ κs a. Unit {0})
-    × (is-positive-f64.Asked ≡ λ κs a. Unit {0})
-    × (f32-to-f64.Asked ≡ λ κs a. Unit {0})
-nothing-asked = (refl, refl, refl, refl, refl, refl, refl, refl, refl, refl)
+nothing-asked = (refl, refl, refl, refl, refl, refl)

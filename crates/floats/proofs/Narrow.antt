@@ -22,7 +22,7 @@ use Rattle.rounding.proofs.Cut.{cut-closest}
 use Rattle.rounding.proofs.Round.{closest-le}
 use Rattle.rounding.proofs.Pattern.{sig-is, decode, rounded-bits, inf-of-field, finite-of-field, round-no-nan, toBits-signed}
 use Rattle.floats.specs.Floats.{toFormat}
-use Rattle.floats.proofs.Floats.{digits-lt}
+use Rattle.cuts.proofs.Digits.{digits-lt}
 
 -- ---- `narrow`: the pattern of the nearest f32, without a sign
 abbrev nearest32 : ℕ → ℕ

@@ -1,98 +1,24 @@
 // Floats worked out from their bits: each conversion cuts the digits at a place and looks at what
 // falls off.
+use cuts::cut::LEADING;
+use cuts::cut::Rule;
+use cuts::cut::SIGN;
+use cuts::cut::cut;
+use cuts::cut::digits_of;
+use cuts::cut::place_of;
+use cuts::cut::whole_size;
 ghost use mathlib.Core.Bool.{false};
 ghost use mathlib.Core.Path.{_≡_};
 ghost use Prim.Native.Nat.{_<_, _-_, _*_, _^_};
 ghost use lib.IntN.{pos, natAbs};
 ghost use lib.Ieee as Ieee;
 ghost use lib.Ieee.{binary32, binary64};
-ghost use lib.Ieee.Scale.{finite};
-ghost use Rattle.rounding.specs.Cut.{cutBy, grows, restBy};
 ghost use Rattle.rounding.specs.Pattern.{field, digits};
-ghost use Rattle.floats.specs.Floats.{wholeOf, floorOf, halfEvenOf, toFormat, positive};
-ghost use Rattle.floats.specs.Rules.{ruleOf};
-
-// In an f64's pattern the weight of the sign, and that of the exponent's field, which is also the
-// leading one's.
-const SIGN: u64 = 9223372036854775808;
-
-const LEADING: u64 = 4503599627370496;
+ghost use Rattle.floats.specs.Floats.{wholeOf, floorOf, halfEvenOf, toFormat};
+ghost use Rattle.cuts.specs.Rules.{ruleOf};
 
 // 2^63, where an i64 ends.
 const TWO_63: f64 = 9223372036854775808.0;
-
-// How a number that was cut is rounded.
-enum Rule {
-    Downward,
-    HalfEven,
-}
-
-// Whether a size that was cut grows by one: `first` is the first digit that fell off, and `later`
-// says whether another one is set.
-fn carries(rule: Rule, negative: bool, odd: bool, first: bool, later: bool) -> bool
-    ensures { λ r. ⌜ r ≡ grows (ruleOf rule) negative odd (restBy first later) ⌝ }
-{
-    match rule {
-        Rule::Downward => negative & (first | later),
-        Rule::HalfEven => first & (later | odd),
-    }
-}
-
-// The size of the whole number that d / 2^place becomes.
-fn cut(rule: Rule, negative: bool, d: u64, place: u64) -> u64
-    ensures { λ r. ⌜ r ≡ cutBy (ruleOf rule) negative d (2 ^ place) ⌝ }
-{
-    if place == 0 {
-        return d;
-    }
-    if place > 64 {
-        return carries(rule, negative, false, false, d > 0) as u64;
-    }
-    let half: u64 = 1 << (place - 1);
-    let doubled = d >> (place - 1);
-    let kept = doubled / 2;
-    kept
-        + carries(
-            rule,
-            negative,
-            kept % 2 == 1,
-            doubled % 2 == 1,
-            d % half > 0,
-        ) as u64
-}
-
-// The digits of a finite f64 by its pattern, with the leading one where there is one.
-fn digits_of(b: u64) -> u64
-    ensures { λ r. ⌜ r ≡ digits binary64 b ⌝ }
-{
-    let low = b % LEADING;
-    if b % SIGN < LEADING {
-        low
-    } else {
-        LEADING + low
-    }
-}
-
-// Where among these digits 1 stands: the value is the digits over 2^place.
-fn place_of(b: u64) -> u64
-    ensures { λ r. ⌜ r ≡ 1074 - (field binary64 b - 1) ⌝ }
-{
-    let e = b % SIGN / LEADING;
-    if e == 0 {
-        return 1074;
-    }
-    if e > 1075 {
-        return 0;
-    }
-    1075 - e
-}
-
-// The size of the whole number that the finite f64 with the pattern b becomes.
-fn whole_size(rule: Rule, negative: bool, b: u64) -> u64
-    ensures { λ r. ⌜ r ≡ cutBy (ruleOf rule) negative (digits binary64 b) (2 ^ (1074 - (field binary64 b - 1))) ⌝ }
-{
-    cut(rule, negative, digits_of(b), place_of(b))
-}
 
 // x as a whole number.
 fn whole(rule: Rule, x: f64) -> f64
@@ -218,30 +144,4 @@ pub fn floor_to_i64(x: f64) -> i64
         return -(whole_size(Rule::Downward, true, b) as i64);
     }
     whole_size(Rule::Downward, false, b) as i64
-}
-
-pub fn is_finite_f32(x: f32) -> bool
-    ensures { λ r. ⌜ r ≡ finite x ⌝ }
-{
-    x - x == 0.0
-}
-
-pub fn is_finite_f64(x: f64) -> bool
-    ensures { λ r. ⌜ r ≡ finite x ⌝ }
-{
-    x - x == 0.0
-}
-
-// Finite and above 0.
-pub fn is_positive_f64(x: f64) -> bool
-    ensures { λ r. ⌜ r ≡ positive x ⌝ }
-{
-    is_finite_f64(x) & (x > 0.0)
-}
-
-// x, which every f64 holds; a NaN gives a NaN.
-pub fn f32_to_f64(x: f32) -> f64
-    ensures { λ r. ⌜ r ≡ x ⌝ }
-{
-    std::num::f32_to_f64_with_nan(x)
 }

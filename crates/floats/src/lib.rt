@@ -1,3 +1,3 @@
-// Floats by their exact values: floor, half-even, conversions, finite or not. Every function is
+// Floats by their exact values: floor, half-even, conversions. Every function is
 // total, and states its result as an equation with a definition of specs/.
 pub mod bits;

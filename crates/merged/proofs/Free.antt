@@ -2,9 +2,7 @@
 -- show, by F's `requires`. Assumes nothing.
 use mathlib.Core.Path.{_≡_, refl}
 use Rattle.merged.proofs.in_f32.block.Reads as in-f32
-use Rattle.merged.proofs.in_q15.block.Reads as in-q15
 
 pub nothing-asked :
-    (in-f32.Asked ≡ λ κs a. Unit {0})
-    × (in-q15.Asked ≡ λ κs a. Unit {0})
-nothing-asked = (refl, refl)
+    in-f32.Asked ≡ λ κs a. Unit {0}
+nothing-asked = refl

@@ -11,9 +11,6 @@ use Rattle.numbers.proofs.fixed.low32.Reads as low32
 use Rattle.numbers.proofs.fixed.phase_twice.Reads as phase-twice
 use Rattle.numbers.proofs.fixed.phase_thrice.Reads as phase-thrice
 use Rattle.numbers.proofs.float.flush_denormal.Reads as flush-denormal
-use Rattle.numbers.proofs.scale.floor_scaled.Reads as floor-scaled
-use Rattle.numbers.proofs.scale.q15_from_f64.Reads as q15-from-f64
-use Rattle.numbers.proofs.scale.q14_from_f64.Reads as q14-from-f64
 
 pub nothing-asked :
     (sat16.Asked ≡ λ κs a. Unit {0})
@@ -26,7 +23,4 @@ pub nothing-asked :
     × (phase-twice.Asked ≡ λ κs a. Unit {0})
     × (phase-thrice.Asked ≡ λ κs a. Unit {0})
     × (flush-denormal.Asked ≡ λ κs a. Unit {0})
-    × (floor-scaled.Asked ≡ λ κs a. Unit {0})
-    × (q15-from-f64.Asked ≡ λ κs a. Unit {0})
-    × (q14-from-f64.Asked ≡ λ κs a. Unit {0})
-nothing-asked = (refl, refl, refl, refl, refl, refl, refl, refl, refl, refl, refl, refl, refl)
+nothing-asked = (refl, refl, refl, refl, refl, refl, refl, refl, refl, refl)

@@ -2,4 +2,3 @@
 // result as an equation with a definition of specs/.
 pub mod fixed;
 pub mod float;
-pub mod scale;

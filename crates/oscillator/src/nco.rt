@@ -51,11 +51,11 @@ pub fn increment_of(cycles: f64) -> u32
 pub fn increment_for(freq: f64, rate: f64) -> Increment
     ensures { λ r. ⌜ saysIncrement r ≡ incrementFor freq rate ⌝ }
 {
-    if !floats::bits::is_positive_f64(rate) {
+    if !finite::finite::is_positive_f64(rate) {
         return Increment::Refused(1);
     }
     let cycles = freq / rate;
-    if !floats::bits::is_finite_f64(cycles) {
+    if !finite::finite::is_finite_f64(cycles) {
         return Increment::Refused(17);
     }
     Increment::Made(increment_of(cycles))

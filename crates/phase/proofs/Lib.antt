@@ -1,4 +1,2 @@
-pub mod Cosine
-pub mod Between
 pub mod Quick
 pub mod Free

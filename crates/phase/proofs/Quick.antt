@@ -19,7 +19,7 @@ use Rattle.rounding.proofs.Round.{exact-at, closest-ge, closest-le, integer-val
 use Rattle.rounding.proofs.Value.{same-test, lt-at, shifted, add-whole, gap, sub-whole, toSigned-whole, value-real}
 use Rattle.numbers.specs.Integers.{modZ}
 use Rattle.floats.specs.Floats.{floorOf}
-use Rattle.numbers.specs.Scaled.{scaledOf}
+use Rattle.scale.specs.Scaled.{scaledOf}
 use Rattle.floats.proofs.Floats.{whole-at}
 use Rattle.phase.specs.declared.correction.Quick.the-variants.{Step, Wide}
 use Rattle.phase.specs.declared.correction.Corrected.{Corrected}

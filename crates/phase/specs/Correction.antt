@@ -6,7 +6,7 @@ use lib.IntN.{pos, negsuc}
 use lib.Ieee.{Float, fin, binary64, add, mul, lt}
 use Rattle.floats.specs.Floats.{absOf}
 use Rattle.numbers.specs.Integers.{modZ}
-use Rattle.numbers.specs.Scaled.{scaledOf}
+use Rattle.scale.specs.Scaled.{scaledOf}
 use Rattle.phase.specs.declared.correction.Quick.{Quick}
 use Rattle.phase.specs.declared.correction.Quick.the-variants.{Step, Wide}
 use Rattle.phase.specs.declared.correction.Corrected.{Corrected}

@@ -23,8 +23,8 @@ pub struct Corrected {
 pub fn correction_plain(f: f32) -> u32
     ensures { λ r. ⌜ r ≡ correctionOf f ⌝ }
 {
-    let x = floats::bits::f32_to_f64(f);
-    numbers::fixed::low32(numbers::scale::floor_scaled(x, 4294967296.0))
+    let x = finite::finite::f32_to_f64(f);
+    numbers::fixed::low32(scale::scale::floor_scaled(x, 4294967296.0))
 }
 
 // Whether the quick way serves for v, f times 2^32 plus 0.5: |v| is below 2^51, which a NaN is not.
@@ -41,7 +41,7 @@ pub fn quick_serves(v: f64) -> bool
 pub fn correction_quick(f: f32) -> Quick
     ensures { λ r. ⌜ r ≡ quickOf f ⌝ }
 {
-    let v = floats::bits::f32_to_f64(f) * 4294967296.0 + 0.5;
+    let v = finite::finite::f32_to_f64(f) * 4294967296.0 + 0.5;
     if quick_serves(v) {
         let m = v + MAGIC;
         let low = (f64::to_bits(m) % 4294967296) as u32;

@@ -18,7 +18,7 @@ use Rattle.decoder.specs.F32.{f32}
 use Rattle.decoder_fast.specs.Wide.{wideUpTo, countOf}
 use Rattle.calls.specs.Events.{Event, sample, switch, clear, eventOf, after, unitTable}
 use Rattle.calls.specs.Calls.{Brought, samplesOf}
-use Rattle.calls.specs.Cores.{coreF32}
+use Rattle.demand.specs.Cores.{coreF32}
 use Rattle.calls.proofs.Events.{after-samples}
 use Rattle.quick_calls.specs.Quiet.{unit, unitSince}
 use Rattle.quick_calls.proofs.Calm.{Mild, Calm, calm-next, calm-switch, mild-next, calm-reset, quick-step}

@@ -14,7 +14,7 @@ use lib.Ieee.Fits.{down-pos}
 use lib.Ieee.Positive.{num, den, den-pos}
 use lib.Ieee.Scale.{finite}
 use Rattle.rounding.proofs.Bound.{Upto, within-finite, within-neg, within-between, add-within, mul-within, shares}
-use Rattle.phase.specs.Lookup.{cosF32}
+use Rattle.lookup.specs.Lookup.{cosF32}
 use Rattle.phase.specs.Correction.{vOf, quickServes}
 use Rattle.answers.specs.Answer.{made}
 use Rattle.decoder_gains.specs.Gains.{Gains, nought}

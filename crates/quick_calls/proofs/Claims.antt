@@ -15,20 +15,20 @@ use Rattle.decoder_fast.specs.Wide.{countOf, blockCount}
 use Rattle.decoder_fast.specs.declared.FastReply.{FastReply}
 use Rattle.summary_record.specs.Record.{Summary}
 use Rattle.summary_record.specs.F32.{unsignedF32}
-use Rattle.summary.specs.Summary.{Columns}
+use Rattle.summary_call.specs.Summary.{Columns}
 use Rattle.summary.specs.Wide.{summaryCount}
 use Rattle.summary.specs.declared.SummarizedF32.{SummarizedF32}
 use Rattle.calls.specs.Events.{Event, after}
 use Rattle.calls.specs.Calls.{Brought, Call, block, merged, summary, enable, disable, reset, Left, callOf, eventsOf, samplesOf, final, events}
-use Rattle.calls.specs.Cores.{coreF32}
+use Rattle.demand.specs.Cores.{coreF32}
 use Rattle.calls.specs.Demand.{Arguments, Constructed, fastDecoder, May, Runs, lastRecord}
 use Rattle.calls.proofs.Events.{final-after}
 use Rattle.calls.proofs.Steps.{saysOf, saysSummary, block-said, summary-said}
 use Rattle.calls.proofs.Allowed.{merged-said}
 use Rattle.calls.proofs.Agreement.{one, last-agrees, fast-blocks, start}
-use Rattle.calls.proofs.Demand.{shown-f32}
-use Rattle.calls.proofs.Witness.{some-arguments, some-gains, some-record, some-made}
-use Rattle.calls.proofs.Functions.{F32}
+use Rattle.demand.proofs.Demand.{shown-f32}
+use Rattle.demand.proofs.Witness.{some-arguments, some-gains, some-record, some-made}
+use Rattle.demand.proofs.Functions.{F32}
 use Rattle.quick_calls.specs.Quiet.{moderate, unitSince, quietOf, carriedBy, Quiet}
 use Rattle.quick_calls.proofs.Calm.{Mild, Calm, calm-new}
 use Rattle.quick_calls.proofs.Blocks.{since-append, mild-after, calm-after, quiet-block}

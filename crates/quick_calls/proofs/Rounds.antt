@@ -17,8 +17,8 @@ use Rattle.decoder.specs.F32.{f32}
 use Rattle.decoder_fast.specs.Wide.{wideUpTo, blockCount}
 use Rattle.rack_waiting.specs.Beside.{beside, over}
 use Rattle.rack_waiting.specs.Waiting.{roundSays}
-use Rattle.rack.specs.Round.{Queue, waitingOf}
-use Rattle.rack.specs.Wide.{turnWide, roundWide}
+use Rattle.rack_round.specs.Round.{Queue, waitingOf}
+use Rattle.rack_round.specs.Wide.{turnWide, roundWide}
 use Rattle.calls.specs.Events.{Event, sample, unitTable}
 use Rattle.rounds.specs.Rounds.{Asked, shareOf, after}
 use Rattle.rounds.specs.Fit.{All}

@@ -8,8 +8,8 @@ use Rattle.answers.specs.Answer.{made}
 use Rattle.decoder_record.specs.State.{Pll}
 use Rattle.decoder_record.specs.Fresh.{newF32Of}
 use Rattle.decoder.specs.F32.{f32}
-use Rattle.rack.specs.Round.{Queue}
-use Rattle.rack.specs.Wide.{roundWide}
+use Rattle.rack_round.specs.Round.{Queue}
+use Rattle.rack_round.specs.Wide.{roundWide}
 use Rattle.calls.specs.Events.{unitTable}
 use Rattle.rounds.specs.Rounds.{Asked, after}
 use Rattle.rounds.specs.Fit.{All}

@@ -1,7 +1,2 @@
-pub mod Parts
-pub mod Working
-pub mod Turns
-pub mod Wide
-pub mod Rounds
 pub mod Free
 pub mod Absent

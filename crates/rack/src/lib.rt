@@ -15,9 +15,9 @@ ghost use Rattle.answers.specs.Answer.{says};
 ghost use Rattle.decoder_record.specs.Records.{pllF32};
 ghost use Rattle.decoder.specs.F32.{f32};
 ghost use Rattle.rack_waiting.specs.Agreed.{Agreed};
-ghost use Rattle.rack.specs.Round.{waitingOf};
-ghost use Rattle.rack.specs.Flat.{queuesOf, workedOf, flatOf};
-ghost use Rattle.rack.specs.Wide.{turnWide, roundWide};
+ghost use Rattle.rack_round.specs.Round.{waitingOf};
+ghost use Rattle.rack_round.specs.Flat.{queuesOf, workedOf, flatOf};
+ghost use Rattle.rack_round.specs.Wide.{turnWide, roundWide};
 ghost use Rattle.rack_waiting.specs.Beside.{beside, over};
 ghost use lib.ListN.{replicate};
 

@@ -1,8 +1,8 @@
 // A rack of two to eight Q15 decoders: a round works each of them on its share of the allowance.
 use answers::answer::Answer;
 use answers::answer::is_accepted;
+use decoder_fit_q15::fit::is_fit;
 use decoder_record_q15::pll_q15::StereoPllQ15;
-use decoder_record_q15::pll_q15::is_fit;
 use rack_waiting::Waiting;
 use rack_waiting::least;
 use rack_waiting::parts;
@@ -16,8 +16,8 @@ ghost use Rattle.decoder_record_q15.specs.Records.{pllQ15};
 ghost use Rattle.decoder_record_q15.specs.Fit.{fitQ15};
 ghost use Rattle.decoder_q15.specs.Q15.{q15};
 ghost use Rattle.rack_waiting.specs.Agreed.{Agreed};
-ghost use Rattle.rack.specs.Round.{waitingOf};
-ghost use Rattle.rack.specs.Flat.{workedOf, flatOf};
+ghost use Rattle.rack_round.specs.Round.{waitingOf};
+ghost use Rattle.rack_round.specs.Flat.{workedOf, flatOf};
 
 // What a round answers, how many samples each decoder took, and the decoders after it.
 pub struct RoundQ15 {

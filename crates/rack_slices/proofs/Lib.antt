@@ -1,8 +1,1 @@
 pub mod Free
-pub mod Lending
-pub mod Places
-pub mod Rounds
-pub mod Turns
-pub mod Wide
-pub mod Within
-pub mod Working

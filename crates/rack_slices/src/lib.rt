@@ -17,9 +17,9 @@ ghost use Rattle.decoder_record.specs.Records.{pllF32};
 ghost use Rattle.decoder.specs.F32.{f32};
 ghost use Rattle.rack_waiting.specs.Agreed.{Even};
 ghost use Rattle.rack_waiting.specs.Beside.{beside, over};
-ghost use Rattle.rack.specs.Round.{waitingOf, turnOf};
-ghost use Rattle.rack.specs.Wide.{turnWide, roundWide};
-ghost use Rattle.rack_slices.specs.Slices.{addressesOf, queuesAt, workedOf, slicesOf};
+ghost use Rattle.rack_round.specs.Round.{waitingOf, turnOf};
+ghost use Rattle.rack_round.specs.Wide.{turnWide, roundWide};
+ghost use Rattle.rack_slices_round.specs.Slices.{addressesOf, queuesAt, workedOf, slicesOf};
 
 // How long the slices of each decoder are; one that is not there counts as empty.
 fn lengths(

@@ -16,8 +16,8 @@ ghost use Rattle.answers.specs.Answer.{says};
 ghost use Rattle.decoder_record_q15.specs.Records.{pllQ15};
 ghost use Rattle.decoder_q15.specs.Q15.{q15};
 ghost use Rattle.rack_waiting.specs.Agreed.{Even};
-ghost use Rattle.rack.specs.Round.{waitingOf, turnOf};
-ghost use Rattle.rack_slices.specs.Slices.{addressesOf, queuesAt, workedOf, slicesOf};
+ghost use Rattle.rack_round.specs.Round.{waitingOf, turnOf};
+ghost use Rattle.rack_slices_round.specs.Slices.{addressesOf, queuesAt, workedOf, slicesOf};
 
 // How long the slices of each decoder are; one that is not there counts as empty.
 fn lengths(

@@ -7,8 +7,8 @@ use Rattle.answers.specs.Answer.{accepts}
 use Rattle.rds.specs.Coding.{coded, lastOf, undone, bitIn, Sent, sentOf}
 use Rattle.rds.specs.Former.{plainOf, groupCauses, groupOf}
 use Rattle.rds.specs.Claims.{Call, formedAll, wentOut, plainAll, Claims}
-use Rattle.rds.proofs.Remainders.{remainder}
-use Rattle.rds.proofs.Checks.{offset-left, formed-offset, block-bits, one-offset}
+use Rattle.rds_blocks.proofs.Remainders.{remainder}
+use Rattle.rds_blocks.proofs.Checks.{offset-left, formed-offset, block-bits, one-offset}
 use Rattle.rds.proofs.Codes.{coded-append, undone-coded, bits-bytes}
 
 -- the bits of one call, and the bit that it carries on, by whether it is carried out: those of the coding

@@ -6,8 +6,8 @@ use mathlib.Core.Bool.{Bool, true, false, not, Bool·beq}
 use mathlib.Core.List.{List, [], _∷_, _++_, map, append-nil}
 use lib.ListN.{length, take, set, length-set}
 use lib.Seq.{take-suc-set, take-all, append-snoc}
-use Rattle.rds.specs.Division.{bit}
-use Rattle.rds.specs.Blocks.{bitsOf}
+use Rattle.rds_blocks.specs.Division.{bit}
+use Rattle.rds_blocks.specs.Blocks.{bitsOf}
 use Rattle.rds.specs.Coding.{differs, coded, lastOf, undone, byteOf, bitIn, Sent, sentOf}
 
 -- ---- as the code compares two bits

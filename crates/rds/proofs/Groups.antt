@@ -9,13 +9,13 @@ use lib.Dec.{eqb}
 use lib.ListN.{length, take, drop, length-append, length-map, drop-of-length-le}
 use lib.Seq.{take-at, drop-at, drop-drop}
 use Rattle.answers.specs.Answer.{accepted, turned, lengths, firstCause, kept}
-use Rattle.rds.specs.declared.blocks.Offset.{Offset}
-use Rattle.rds.specs.declared.blocks.Offset.the-variants.{A, B, D}
+use Rattle.rds_blocks.specs.declared.blocks.Offset.{Offset}
+use Rattle.rds_blocks.specs.declared.blocks.Offset.the-variants.{A, B, D}
 use Rattle.rds.specs.declared.former.RdsWords.{RdsWords}
-use Rattle.rds.specs.Blocks.{blockBits}
+use Rattle.rds_blocks.specs.Blocks.{blockBits}
 use Rattle.rds.specs.Coding.{coded, lastOf, byteOf, Sent, sentOf}
 use Rattle.rds.specs.Former.{third, repeats, plainOf, bits, Formed, groupOf}
-use Rattle.rds.proofs.Checks.{block-length}
+use Rattle.rds_blocks.proofs.Checks.{block-length}
 use Rattle.rds.proofs.Codes.{coded-append, last-append, coded-length}
 
 -- ---- parts of a list that are written one after the other

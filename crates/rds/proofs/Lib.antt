@@ -1,7 +1,3 @@
-pub mod Exclusive
-pub mod Divide
-pub mod Remainders
-pub mod Checks
 pub mod Codes
 pub mod Groups
 pub mod Claims

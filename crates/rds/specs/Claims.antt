@@ -5,10 +5,10 @@ use mathlib.Core.Bool.{Bool}
 use mathlib.Core.List.{List, [], _∷_, _++_, map}
 use mathlib.Core.Path.{_≡_}
 use Rattle.answers.specs.Answer.{kept}
-use Rattle.rds.specs.declared.blocks.Offset.{Offset}
+use Rattle.rds_blocks.specs.declared.blocks.Offset.{Offset}
 use Rattle.rds.specs.declared.former.RdsWords.{RdsWords}
-use Rattle.rds.specs.Division.{remainderOf, Remainder}
-use Rattle.rds.specs.Blocks.{wordOf, blockOf, bitsOf, blockBits, offsetIn}
+use Rattle.rds_blocks.specs.Division.{remainderOf, Remainder}
+use Rattle.rds_blocks.specs.Blocks.{wordOf, blockOf, bitsOf, blockBits, offsetIn}
 use Rattle.rds.specs.Coding.{coded, undone, bitIn}
 use Rattle.rds.specs.Former.{plainOf, groupCauses, Formed, groupOf}
 

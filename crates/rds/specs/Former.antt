@@ -5,13 +5,13 @@ use mathlib.Core.List.{List, [], _∷_, _++_}
 use lib.Dec.{eqb}
 use lib.ListN.{length}
 use Rattle.answers.specs.Answer.{Said, accepted, turned, lengths, rule, outputRule, firstCause, kept}
-use Rattle.rds.specs.declared.blocks.Offset.{Offset}
-use Rattle.rds.specs.declared.blocks.Offset.the-variants.{A, B, C, CPrime, D}
+use Rattle.rds_blocks.specs.declared.blocks.Offset.{Offset}
+use Rattle.rds_blocks.specs.declared.blocks.Offset.the-variants.{A, B, C, CPrime, D}
 use Rattle.rds.specs.declared.former.RdsWords.{RdsWords}
 use Rattle.rds.specs.declared.former.GroupAnswer.{GroupAnswer}
 use Rattle.rds.specs.declared.former.GroupAnswer.the-variants.{Accepted, Output, WordThree}
-use Rattle.rds.specs.Division.{bit}
-use Rattle.rds.specs.Blocks.{blockBits}
+use Rattle.rds_blocks.specs.Division.{bit}
+use Rattle.rds_blocks.specs.Blocks.{blockBits}
 use Rattle.rds.specs.Coding.{Sent, sentOf}
 
 -- bit 11 of word two, the standard's version B: block three takes C', and has to send word one again

@@ -1,12 +1,12 @@
 // The group former.
-use crate::blocks::Offset;
-use crate::blocks::block;
-use crate::division::has_place;
 use answers::answer::Code;
+use rds_blocks::blocks::Offset;
+use rds_blocks::blocks::block;
+use rds_blocks::division::has_place;
 ghost use mathlib.Core.Path.{_≡_};
 ghost use lib.ListN.{length};
 ghost use Rattle.answers.specs.Answer.{codeOf};
-ghost use Rattle.rds.specs.Blocks.{blockBits};
+ghost use Rattle.rds_blocks.specs.Blocks.{blockBits};
 ghost use Rattle.rds.specs.Coding.{byteOf, sentOf};
 ghost use Rattle.rds.specs.Former.{fresh, versionB, third, repeats, plainOf, saysGroup, groupOf};
 

@@ -17,7 +17,7 @@ use Rattle.decoder.proofs.Loops.{lengths-equal}
 use Rattle.decoder_q15.specs.Q15.{q15}
 use Rattle.calls.specs.Calls.{Brought}
 use Rattle.calls.proofs.Steps.{saysOf, block-said, block-ran}
-use Rattle.rack.specs.Round.{turnOf}
+use Rattle.rack_round.specs.Round.{turnOf}
 use Rattle.rounds.specs.Rounds.{shareOf, decodedOf, after, acceptedIn, takenIn, sumsIn, differencesIn, OneRound, Served, NoStarving, SomeRounds}
 use Rattle.rounds.proofs.Places as places
 use Rattle.rounds.proofs.InPlace as in-place

@@ -14,10 +14,10 @@ use Rattle.rack_waiting.specs.Beside.{beside, over}
 use Rattle.rack_waiting.specs.Waiting.{causeOf, partsOf}
 use Rattle.rack_waiting.proofs.Beside.{take-cut, drop-cut, over-length}
 use Rattle.rack_waiting.proofs.Agreement.{accepted-round, agreed-parts}
-use Rattle.rack.specs.Round.{Queue, waitingOf, Turned, turnOf}
-use Rattle.rack.specs.Flat.{queuesOf, joined, flatOf}
-use Rattle.rack.proofs.Turns.{cutBy, AsLong, over-append, past-front, queues-sums, queues-differences, turns-long}
-use Rattle.rack.proofs.Rounds.{queues-waiting, queues-cut}
+use Rattle.rack_round.specs.Round.{Queue, waitingOf, Turned, turnOf}
+use Rattle.rack_round.specs.Flat.{queuesOf, joined, flatOf}
+use Rattle.rack_round.proofs.Turns.{cutBy, AsLong, over-append, past-front, queues-sums, queues-differences, turns-long}
+use Rattle.rack_round.proofs.Rounds.{queues-waiting, queues-cut}
 use Rattle.rounds.specs.Rounds.{Asked, shareOf, Eight, askedOf}
 use Rattle.rounds.proofs.Places.{by-turns, round-said}
 

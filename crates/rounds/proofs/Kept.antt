@@ -9,7 +9,7 @@ use Rattle.answers.specs.Answer.{Said, accepted, turned, lengths, accepts, kept
 use Rattle.decoder_record.specs.State.{Pll}
 use Rattle.decoder.specs.Machine.{Arithmetic, stepOf, stateAt, runOf, blockSays, blockOf}
 use Rattle.rack_waiting.specs.Beside.{beside, over}
-use Rattle.rack.specs.Round.{Queue, turnOf}
+use Rattle.rack_round.specs.Round.{Queue, turnOf}
 use Rattle.rounds.specs.Rounds.{Asked, shareOf, askedOf, after}
 use Rattle.rounds.specs.Fit.{All}
 use Rattle.rounds.proofs.Places.{by-turns}

@@ -13,7 +13,7 @@ use Rattle.decoder.specs.Machine.{Arithmetic, Stepped, stateAt, stepAt}
 use Rattle.calls.proofs.Steps.{saysOf}
 use Rattle.rack_waiting.specs.Beside.{beside}
 use Rattle.rack_waiting.proofs.Beside.{over-length}
-use Rattle.rack.specs.Round.{Queue, Turned, turnOf, Rounded}
+use Rattle.rack_round.specs.Round.{Queue, Turned, turnOf, Rounded}
 use Rattle.rounds.specs.Rounds.{Asked, shareOf, Eight, none, leavesAt, untouchedAt, askedOf, after, acceptedIn, Brings, takenIn, sumsIn, differencesIn}
 use Rattle.rounds.proofs.Places.{beside-short, by-turns, refused, alone, own-accepted}
 use Rattle.rounds.proofs.Runs.{samples-split, state-split, step-split, broughtOf, turn-taken, turn-pll, turn-sum, turn-difference}

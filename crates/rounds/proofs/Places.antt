@@ -14,7 +14,7 @@ use Rattle.rack_waiting.specs.Beside.{beside, over}
 use Rattle.rack_waiting.specs.Waiting.{causeOf, roundSays}
 use Rattle.rack_waiting.proofs.Beside.{length-beside}
 use Rattle.rack_waiting.proofs.Agreement.{Accepted, accepted-round}
-use Rattle.rack.specs.Round.{Queue, waitingOf, Turned, turnOf, Rounded, roundOf}
+use Rattle.rack_round.specs.Round.{Queue, waitingOf, Turned, turnOf, Rounded, roundOf}
 use Rattle.rounds.specs.Rounds.{Asked, shareOf, Eight, none, leavesAt, untouchedAt, askedOf}
 
 module _ {A B C : Type 0} (f : A → B → C) where

@@ -17,7 +17,7 @@ use Rattle.calls.specs.Calls.{Brought}
 use Rattle.calls.specs.Demand.{firstOf}
 use Rattle.calls.proofs.Steps.{saysOf, block-ran, state-first, first-says}
 use Rattle.rack_waiting.specs.Beside.{over}
-use Rattle.rack.specs.Round.{Queue, Turned, turnOf}
+use Rattle.rack_round.specs.Round.{Queue, Turned, turnOf}
 
 -- samples in two parts
 pub samples-split : {X : Type 0} (n j : ℕ) (f : ℕ → X) → samples (n + j) f ≡ samples n f ++ samples j (λ i. f (n + i))

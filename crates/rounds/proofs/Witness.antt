@@ -15,7 +15,7 @@ use Rattle.rack_waiting.specs.declared.Waiting.{Waiting}
 use Rattle.rack_waiting.specs.Beside.{beside}
 use Rattle.rack_waiting.specs.Waiting.{causeOf}
 use Rattle.rack_waiting.proofs.Answers.{decoders-decide}
-use Rattle.rack.specs.Round.{Queue, waitingOf}
+use Rattle.rack_round.specs.Round.{Queue, waitingOf}
 use Rattle.rounds.specs.Rounds.{Asked, none, askedOf, acceptedIn, Brings}
 use Rattle.rounds.specs.Fit.{All}
 use Rattle.rounds.proofs.Places.{round-said}

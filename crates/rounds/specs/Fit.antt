@@ -12,7 +12,7 @@ use Rattle.decoder_record.specs.State.{Pll}
 use Rattle.decoder_record_q15.specs.Fit.{fitQ15}
 use Rattle.decoder_record_q15.specs.Fresh.{newQ15Of}
 use Rattle.decoder_q15.specs.Q15.{q15}
-use Rattle.rack.specs.Round.{Queue}
+use Rattle.rack_round.specs.Round.{Queue}
 use Rattle.rounds.specs.Rounds.{Asked, after}
 
 -- P of each element

@@ -9,8 +9,8 @@ use Rattle.answers.specs.Answer.{accepts, entries}
 use Rattle.decoder_record.specs.State.{Pll}
 use Rattle.decoder.specs.Machine.{Arithmetic, Blocked, runOf, blockOf}
 use Rattle.rack_waiting.specs.declared.Waiting.{Waiting}
-use Rattle.rack.specs.Round.{Queue, Turned, turnOf, Rounded, roundOf}
-use Rattle.rack.specs.Flat.{queuesOf, flatOf}
+use Rattle.rack_round.specs.Round.{Queue, Turned, turnOf, Rounded, roundOf}
+use Rattle.rack_round.specs.Flat.{queuesOf, flatOf}
 
 -- a round as it is asked for, with all but the records
 pub record Asked (A : Type 0) : Type 0 where

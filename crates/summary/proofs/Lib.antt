@@ -1,4 +1,1 @@
-pub mod Fits
-pub mod Noting
-pub mod Ways
 pub mod Free

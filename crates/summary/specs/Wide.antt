@@ -11,7 +11,7 @@ use Rattle.decoder.specs.F32.{f32}
 use Rattle.decoder_fast.specs.Wide.{countOf}
 use Rattle.summary_record.specs.Record.{Summary}
 use Rattle.summary_record.specs.F32.{unsignedF32}
-use Rattle.summary.specs.Summary.{Columns, summarySays}
+use Rattle.summary_call.specs.Summary.{Columns, summarySays}
 
 unfoldable pub summaryCount : Pll Float → Summary Float
     → List Float → List Float → List Float → List Float → List Float → Columns Float → Count

@@ -21,7 +21,7 @@ ghost use Rattle.decoder.specs.F32.{f32};
 ghost use Rattle.decoder_record.specs.Records.{pllF32};
 ghost use Rattle.decoder_fast.specs.Wide.{wideUpTo};
 ghost use Rattle.summary_counts.specs.Counts.{endingOf};
-ghost use Rattle.summary.specs.Summary.{summaryRun, summaryOf};
+ghost use Rattle.summary_call.specs.Summary.{summaryRun, summaryOf};
 ghost use Rattle.summary.specs.Wide.{summaryCount};
 ghost use Rattle.summary_record.specs.Record.{summaryFit};
 ghost use Rattle.summary_record.specs.F32.{unsignedF32, summaryF32};

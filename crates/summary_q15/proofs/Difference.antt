@@ -12,8 +12,8 @@ use mir.Val.{SFits}
 use Rattle.rounding.proofs.Lin.{up, dn, lt-no-in, fit-out, dn-mul}
 use Rattle.numbers.specs.Integers.{sat16Of, roundShiftOf}
 use Rattle.numbers.proofs.Integers.{sat-mono, round-mono}
-use Rattle.phase.specs.Lookup.{cosQ15, sineAt}
-use Rattle.phase.proofs.Between.{cosQ15-fits}
+use Rattle.lookup.specs.Lookup.{cosQ15, sineAt}
+use Rattle.lookup.proofs.Between.{cosQ15-fits}
 use Rattle.decoder_record.specs.State.{Pll}
 use Rattle.decoder.specs.Machine.{decide, stepOf}
 use Rattle.decoder_q15.specs.Q15.{q15, levelQ15}

@@ -19,7 +19,7 @@ ghost use Rattle.decoder_q15.specs.Q15.{q15};
 ghost use Rattle.decoder_record_q15.specs.Records.{pllQ15};
 ghost use Rattle.decoder_record_q15.specs.Fit.{fitQ15};
 ghost use Rattle.summary_counts.specs.Counts.{endingOf};
-ghost use Rattle.summary.specs.Summary.{summaryRun, summaryOf};
+ghost use Rattle.summary_call.specs.Summary.{summaryRun, summaryOf};
 ghost use Rattle.summary_record.specs.Record.{summaryFit};
 ghost use Rattle.summary_record.specs.Q15.{unsignedQ15, summaryQ15};
 
@@ -145,7 +145,7 @@ pub fn block(
         }) ⌝ }
 {
     let own = block_answer(
-        decoder_record_q15::pll_q15::is_fit(d),
+        decoder_fit_q15::fit::is_fit(d),
         table.len(),
         mpx.len(),
         pilot.len(),

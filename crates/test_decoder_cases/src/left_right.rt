@@ -6,7 +6,7 @@ use crate::show::number;
 use crate::show::sample;
 use decoder_record::pll_f32::StereoPllF32;
 use decoder_record_q15::pll_q15::StereoPllQ15;
-use test_lines::words::word_f32;
+use test_words::words::word_f32;
 ghost use mathlib.Core.Path.{_≡_};
 ghost use Prim.Native.Nat.{_≤_};
 ghost use lib.ListN.{length};
@@ -103,7 +103,7 @@ fn merged_q15(
     let mut l = [9i16; 2];
     let mut r = [9i16; 2];
     label(name);
-    let reply = merged::in_q15::block(
+    let reply = merged_q15::in_q15::block(
         d,
         table,
         &mpx,

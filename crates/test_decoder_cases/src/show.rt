@@ -23,11 +23,11 @@ fn twos(w: u64) {
 }
 
 pub(crate) fn signed(z: i64) {
-    twos(test_lines::words::word_i64(z));
+    twos(test_words::words::word_i64(z));
 }
 
 pub(crate) fn sample(x: i16) {
-    twos(test_lines::words::word_i16(x));
+    twos(test_words::words::word_i16(x));
 }
 
 pub(crate) fn done() {

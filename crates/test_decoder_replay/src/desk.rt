@@ -4,7 +4,7 @@ use crate::session_f32::PairF32;
 use crate::session_q15::PairQ15;
 use decoder_record::pll_f32::StereoPllF32;
 use decoder_record_q15::pll_q15::StereoPllQ15;
-use test_lines::tally::Tally;
+use test_tally::tally::Tally;
 
 pub struct Desk {
     pub tally: Tally,
@@ -59,7 +59,7 @@ fn none_q15() -> PairQ15 {
 // Before the first line.
 pub(crate) fn empty() -> Desk {
     Desk {
-        tally: test_lines::tally::fresh(),
+        tally: test_tally::tally::fresh(),
         float: none_f32(),
         fixed: none_q15(),
     }

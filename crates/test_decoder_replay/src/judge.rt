@@ -2,14 +2,14 @@
 use crate::desk::Desk;
 use crate::line::read;
 use crate::names;
-use test_lines::tally::Tally;
+use test_tally::tally::Tally;
 
 // One count more, of a call that both answered or not.
 fn counted(t: Tally, line: &[u8; 306], name: usize, agree: bool) -> Tally {
     if agree {
-        return test_lines::tally::agree(t, name);
+        return test_tally::tally::agree(t, name);
     }
-    test_lines::tally::differ(t, line, 0)
+    test_tally::tally::differ(t, line, 0)
 }
 
 // The desk with another count.
@@ -49,7 +49,7 @@ fn judge(desk: Desk, line: &[u8; 306]) -> Desk {
     let w = found.w;
     if (name >= names::COUNT) | !found.good {
         let t = desk.tally;
-        return at(desk, test_lines::tally::refuse(t, line));
+        return at(desk, test_tally::tally::refuse(t, line));
     }
     called(desk, line, name, &w)
 }
@@ -63,7 +63,7 @@ pub(crate) fn next(fd: i32, desk: Desk) -> Desk {
     }
     let mut t = desk.tally;
     if n > 0 {
-        t = test_lines::tally::refuse(t, &line);
+        t = test_tally::tally::refuse(t, &line);
     }
-    at(desk, test_lines::tally::end(t))
+    at(desk, test_tally::tally::end(t))
 }

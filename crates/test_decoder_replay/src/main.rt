@@ -14,7 +14,7 @@ mod words12;
 
 // A proved loop has to end, and nothing says that a file does: so the loop counts its turns down,
 // from a number that no run uses up.
-fn replay(fd: i32) -> test_lines::tally::Tally {
+fn replay(fd: i32) -> test_tally::tally::Tally {
     let mut desk = desk::empty();
     let mut turns = u64::MAX;
     while turns > 0 {
@@ -38,5 +38,5 @@ fn main() {
     }
     let t = replay(fd);
     libc::close(fd);
-    test_lines::tally::report(t, &names::NAMES);
+    test_tally::tally::report(t, &names::NAMES);
 }

@@ -9,11 +9,11 @@ use decoder::parts::ReplyF32;
 use decoder_fast::FastReply;
 use decoder_record::pll_f32::NewF32;
 use decoder_record::pll_f32::StereoPllF32;
-use test_lines::words::f32_of;
-use test_lines::words::f64_of;
-use test_lines::words::u32_of;
-use test_lines::words::word_f32;
-use test_lines::words::word_u32;
+use test_words::words::f32_of;
+use test_words::words::f64_of;
+use test_words::words::u32_of;
+use test_words::words::word_f32;
+use test_words::words::word_u32;
 ghost use Prim.Native.Nat.{_≤_};
 
 // What a call answers, and the decoder after it.
@@ -117,7 +117,7 @@ fn sines(from: u32, step: u32, size: f32, table: &[f32], out: &mut [f32; 80]) {
     let mut p = from;
     let mut i = 0usize;
     while i < 80 {
-        out[i] = size * phase::lookup::cos_f32(table, phase::lookup::sine_at(p));
+        out[i] = size * lookup::lookup::cos_f32(table, lookup::lookup::sine_at(p));
         p = std::num::wrapping_add_u32(p, step);
         i += 1;
     }

@@ -7,12 +7,12 @@ use answers::answer::is_accepted;
 use decoder_q15::parts::ReplyQ15;
 use decoder_record_q15::pll_q15::NewQ15;
 use decoder_record_q15::pll_q15::StereoPllQ15;
-use test_lines::words::f64_of;
-use test_lines::words::i16_of;
-use test_lines::words::i64_of;
-use test_lines::words::u32_of;
-use test_lines::words::word_i64;
-use test_lines::words::word_u32;
+use test_words::words::f64_of;
+use test_words::words::i16_of;
+use test_words::words::i64_of;
+use test_words::words::u32_of;
+use test_words::words::word_i64;
+use test_words::words::word_u32;
 ghost use Prim.Native.Nat.{_≤_};
 
 // What a call answers, and the decoder after it.
@@ -118,7 +118,7 @@ fn sines(from: u32, step: u32, size: i16, table: &[i16], out: &mut [i16; 80]) {
     while i < 80 {
         out[i] = numbers::fixed::q15_mul(
             size,
-            phase::lookup::cos_q15(table, phase::lookup::sine_at(p)),
+            lookup_q15::in_q15::cos_q15(table, lookup::lookup::sine_at(p)),
         );
         p = std::num::wrapping_add_u32(p, step);
         i += 1;
@@ -160,7 +160,7 @@ fn either(
         return decoder_q15::plain::block(d, table, mpx, pilot, sum, difference);
     }
     if merged {
-        return merged::in_q15::block(d, table, mpx, pilot, sum, difference);
+        return merged_q15::in_q15::block(d, table, mpx, pilot, sum, difference);
     }
     decoder_q15::fast::block(d, table, mpx, pilot, sum, difference)
 }

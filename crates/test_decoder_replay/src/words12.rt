@@ -2,7 +2,7 @@
 // words 1 to 11, in either format: six gains, step0, phase, integrator, level, switches.
 use answers::answer::Answer;
 use answers::answer::code_of;
-use test_lines::words::word_f64;
+use test_words::words::word_f64;
 
 // The digest of a list of words, one word further: the list's value in base 1000003, modulo the
 // largest prime below 2^32.
@@ -15,7 +15,7 @@ pub(crate) fn digest_f32(x: &[f32; 80]) -> u64 {
     let mut h = 1u64;
     let mut i = 0usize;
     while i < 80 {
-        h = digest(h, test_lines::words::word_f32(x[i]));
+        h = digest(h, test_words::words::word_f32(x[i]));
         i += 1;
     }
     h
@@ -25,7 +25,7 @@ pub(crate) fn digest_q15(x: &[i16; 80]) -> u64 {
     let mut h = 1u64;
     let mut i = 0usize;
     while i < 80 {
-        h = digest(h, test_lines::words::word_i16(x[i]));
+        h = digest(h, test_words::words::word_i16(x[i]));
         i += 1;
     }
     h

@@ -1,6 +1,6 @@
 // What the crate numbers answers, as a word.
 use crate::names;
-use test_lines::words;
+use test_words::words;
 
 // Whether the arguments are words of the function's types. Where it has one argument the second
 // word is 0.
@@ -20,10 +20,10 @@ pub(crate) fn is_typed(function: usize, a: u64, b: u64) -> bool {
 }
 
 fn q14(x: f64) -> u64 {
-    match numbers::scale::q14_from_f64(x) {
-        numbers::scale::Q14::Value(v) => words::word_i16(v),
+    match scale::scale::q14_from_f64(x) {
+        scale::scale::Q14::Value(v) => words::word_i16(v),
         // a refusal's word is 32768 and its number, above every i16
-        numbers::scale::Q14::Outside => 32786,
+        scale::scale::Q14::Outside => 32786,
     }
 }
 
@@ -60,14 +60,14 @@ fn float(function: usize, a: u64, b: u64) -> u64 {
         names::F64_TO_F32 => words::word_f32(floats::bits::f64_to_f32(words::f64_of(a))),
         names::I64_TO_F64 => words::word_f64(floats::bits::i64_to_f64(words::i64_of(a))),
         names::F64_TO_I64 => words::word_i64(floats::bits::f64_to_i64(words::f64_of(a))),
-        names::F32_TO_F64 => words::word_f64(floats::bits::f32_to_f64(words::f32_of(a))),
-        names::IS_FINITE_F32 => words::word_bool(floats::bits::is_finite_f32(words::f32_of(a))),
-        names::IS_FINITE_F64 => words::word_bool(floats::bits::is_finite_f64(words::f64_of(a))),
+        names::F32_TO_F64 => words::word_f64(finite::finite::f32_to_f64(words::f32_of(a))),
+        names::IS_FINITE_F32 => words::word_bool(finite::finite::is_finite_f32(words::f32_of(a))),
+        names::IS_FINITE_F64 => words::word_bool(finite::finite::is_finite_f64(words::f64_of(a))),
         names::FLUSH_DENORMAL => words::word_f32(numbers::float::flush_denormal(words::f32_of(a))),
         names::FLOOR_SCALED => {
-            words::word_i64(numbers::scale::floor_scaled(words::f64_of(a), words::f64_of(b)))
+            words::word_i64(scale::scale::floor_scaled(words::f64_of(a), words::f64_of(b)))
         }
-        names::Q15_FROM_F64 => words::word_i16(numbers::scale::q15_from_f64(words::f64_of(a))),
+        names::Q15_FROM_F64 => words::word_i16(scale::scale::q15_from_f64(words::f64_of(a))),
         _ => q14(words::f64_of(a)),
     }
 }

@@ -10,8 +10,8 @@ mod tally;
 
 // A proved loop has to end, and nothing says that a file does: so the loop counts its turns down,
 // from a number that no run uses up.
-fn replay(fd: i32) -> test_lines::tally::Tally {
-    let mut t = test_lines::tally::fresh();
+fn replay(fd: i32) -> test_tally::tally::Tally {
+    let mut t = test_tally::tally::fresh();
     let mut turns = u64::MAX;
     while turns > 0 {
         t = tally::next(fd, t);
@@ -33,5 +33,5 @@ fn main() {
     }
     let t = replay(fd);
     libc::close(fd);
-    test_lines::tally::report(t, &names::NAMES);
+    test_tally::tally::report(t, &names::NAMES);
 }

@@ -1,20 +1,20 @@
 // Reads the list line by line and judges each.
-use test_lines::tally::Tally;
+use test_tally::tally::Tally;
 
 // The tally after one line.
 fn judge(t: Tally, line: &[u8; 68]) -> Tally {
     let read = crate::line::parse(line);
     match read {
-        crate::line::Read::Malformed => test_lines::tally::refuse(t, line),
+        crate::line::Read::Malformed => test_tally::tally::refuse(t, line),
         crate::line::Read::Case(case) => {
             if !crate::answer::is_typed(case.function, case.a, case.b) {
-                return test_lines::tally::refuse(t, line);
+                return test_tally::tally::refuse(t, line);
             }
             let got = crate::answer::answer(case.function, case.a, case.b);
             if got == case.answer {
-                test_lines::tally::agree(t, case.function)
+                test_tally::tally::agree(t, case.function)
             } else {
-                test_lines::tally::differ(t, line, got)
+                test_tally::tally::differ(t, line, got)
             }
         }
     }
@@ -29,7 +29,7 @@ pub(crate) fn next(fd: i32, t: Tally) -> Tally {
     }
     let mut out = t;
     if n > 0 {
-        out = test_lines::tally::refuse(t, &line);
+        out = test_tally::tally::refuse(t, &line);
     }
-    test_lines::tally::end(out)
+    test_tally::tally::end(out)
 }

@@ -38,6 +38,10 @@ pub(crate) fn by_number(ones: &[f32], tops: &[i16]) {
     whole(b"number 1", b"", b"11111111", ones, tops, 1, 9);
     whole(b"number 9", b"", b"11111111", ones, tops, 9, 99);
     whole(b"number 9, allowance 8", b"u", b"1211", ones, tops, 9, 8);
+}
+
+// 21 for the largest number, and 22.
+pub(crate) fn by_allowance(ones: &[f32], tops: &[i16]) {
     whole(
         b"number largest",
         b"",
@@ -167,6 +171,10 @@ pub(crate) fn by_share(ones: &[f32], tops: &[i16]) {
         3,
         4294967295,
     );
+}
+
+// Rounds one after the other, with a refused one between.
+pub(crate) fn one_by_one(ones: &[f32], tops: &[i16]) {
     let b = Both {
         f: start::rack_f32(b""),
         q: start::rack_q15(b""),
@@ -230,6 +238,10 @@ pub(crate) fn by_wide(ones: &[f32]) {
         16,
     );
     counts(b"wide by share", b"www", b"444444444444", ones, 3, 4);
+}
+
+// Where no decoder is worked, or not all are.
+pub(crate) fn by_wide_left(ones: &[f32]) {
     counts(
         b"wide past the number",
         b"iiii",
@@ -241,6 +253,10 @@ pub(crate) fn by_wide(ones: &[f32]) {
     counts(b"wide, nothing waits", b"iii", b"222200002222", ones, 3, 6);
     counts(b"wide, second pilot", b"ii", b"22222322", ones, 2, 6);
     counts(b"wide, number 1", b"ii", b"22222222", ones, 1, 6);
+}
+
+// Rounds one after the other: a count is that of its round alone.
+pub(crate) fn by_wide_round(ones: &[f32]) {
     let one = count(
         start::rack_f32(b" i"),
         b"wide, first round",

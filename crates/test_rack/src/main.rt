@@ -9,11 +9,15 @@ mod start;
 
 fn all(ones: &[f32], tops: &[i16]) {
     cases::by_number(ones, tops);
+    cases::by_allowance(ones, tops);
     cases::by_decoder(ones, tops);
     cases::by_length(ones, tops);
     cases::by_share(ones, tops);
+    cases::one_by_one(ones, tops);
     cases::by_part(ones, tops);
     cases::by_wide(ones);
+    cases::by_wide_left(ones);
+    cases::by_wide_round(ones);
 }
 
 fn main() {

@@ -99,7 +99,7 @@ fn place_f32(x: f32) {
     if x == -1.0 {
         label(b" .");
     } else {
-        number(test_lines::words::word_f32(x));
+        number(test_words::words::word_f32(x));
     }
 }
 
@@ -116,6 +116,6 @@ fn place_q15(x: i16) {
     if x == -1 {
         label(b" .");
     } else {
-        number(test_lines::words::word_i16(x));
+        number(test_words::words::word_i16(x));
     }
 }

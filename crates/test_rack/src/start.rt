@@ -141,7 +141,7 @@ pub(crate) fn samples_q15(mpx: &mut [i16; 24], pilot: &mut [i16; 24]) {
     let mut i = 0usize;
     let mut high = true;
     while i < 24 {
-        mpx[i] = test_lines::words::i16_of(std::num::wrapping_add_u64(i as u64, 1));
+        mpx[i] = test_words::words::i16_of(std::num::wrapping_add_u64(i as u64, 1));
         pilot[i] = if high { 32767 } else { 0 };
         high = !high;
         i += 1;

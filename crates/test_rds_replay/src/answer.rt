@@ -95,7 +95,7 @@ pub(crate) fn group(former: RdsFormer, words: u64, length: u64) -> Called {
             lengths: ((code.expected as u64) << 32) ^ (code.got as u64),
             first: halves(accepted, &room, 0),
             last: halves(accepted, &room, 52),
-            left: (untouched(&room) << 1) ^ test_lines::words::word_bool(next.carried),
+            left: (untouched(&room) << 1) ^ test_words::words::word_bool(next.carried),
         },
         former: next,
     }

@@ -5,8 +5,8 @@ use crate::line::Case;
 use crate::line::Read;
 use crate::names;
 use rds::former::RdsFormer;
-use test_lines::tally;
-use test_lines::tally::Tally;
+use test_tally::tally;
+use test_tally::tally::Tally;
 
 pub struct Desk {
     pub tally: Tally,

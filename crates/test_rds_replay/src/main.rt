@@ -36,6 +36,6 @@ fn main() {
     }
     let d = replay(fd);
     let t = d.tally;
-    test_lines::tally::report(t, &names::NAMES);
+    test_tally::tally::report(t, &names::NAMES);
     libc::close(fd);
 }

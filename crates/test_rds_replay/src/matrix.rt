@@ -37,7 +37,7 @@ fn by_rows(word: u32) -> u32 {
 fn agreeing() -> u32 {
     let mut n = 0u32;
     for word in 0..65536u32 {
-        if rds::division::remainder(word * 1024) == by_rows(word) {
+        if rds_blocks::division::remainder(word * 1024) == by_rows(word) {
             n = std::num::wrapping_add_u32(n, 1);
         }
     }

@@ -7,8 +7,8 @@ use lib.Dec.{eqb, ltb}
 use lib.IntN.{ℤ, pos}
 use lib.Ieee.{Float, fin, binary32, binary64, ofBits, ofInt, sub, div}
 use Rattle.floats.specs.Floats.{toFormat}
-use Rattle.numbers.specs.Scaled.{q15FromOf}
-use Rattle.test_lines.specs.Words.{signedOf}
+use Rattle.scale.specs.Scaled.{q15FromOf}
+use Rattle.test_words.specs.Words.{signedOf}
 
 -- 32 bits that look random
 unfoldable pub mixedOf : ℕ → ℕ

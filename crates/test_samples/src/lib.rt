@@ -45,9 +45,9 @@ fn any_f32(w: u64) -> f32
 {
     let v = mixed(w);
     if w % 8 == 0 {
-        return test_lines::words::f32_of(v);
+        return test_words::words::f32_of(v);
     }
-    test_lines::words::f32_of(bounded(v))
+    test_words::words::f32_of(bounded(v))
 }
 
 fn sample_f32(spec: u64, i: usize) -> f32
@@ -55,8 +55,8 @@ fn sample_f32(spec: u64, i: usize) -> f32
 {
     match spec / 4294967296 {
         1 => floats::bits::f64_to_f32(triangle(i)),
-        2 => test_lines::words::f32_of(spec),
-        3 => test_lines::words::f32_of(bounded(drawn(spec, i))),
+        2 => test_words::words::f32_of(spec),
+        3 => test_words::words::f32_of(bounded(drawn(spec, i))),
         _ => any_f32(drawn(spec, i)),
     }
 }
@@ -65,9 +65,9 @@ fn sample_q15(spec: u64, i: usize) -> i16
     ensures { λ r. ⌜ r ≡ sampleQ15Of spec i ⌝ }
 {
     match spec / 4294967296 {
-        1 => numbers::scale::q15_from_f64(triangle(i)),
-        2 => test_lines::words::i16_of(spec),
-        _ => test_lines::words::i16_of(drawn(spec, i)),
+        1 => scale::scale::q15_from_f64(triangle(i)),
+        2 => test_words::words::i16_of(spec),
+        _ => test_words::words::i16_of(drawn(spec, i)),
     }
 }
 

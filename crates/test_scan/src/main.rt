@@ -2,7 +2,7 @@
 // ones. What is to be written stands in the file stdout; it was worked out from document 02, request 3, by
 // counting places.
 use libc::STDOUT_FILENO;
-use test_lines::words::f32_of;
+use test_words::words::f32_of;
 
 // Whether all are finite, and how many samples were read.
 fn answer(pilot: &[f32]) {

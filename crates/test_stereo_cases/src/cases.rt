@@ -7,14 +7,14 @@ use crate::write::refusal;
 use encoder_record::encode::NewEncode;
 use encoder_record::encode::SetEncode;
 use encoder_record::encode::StereoEncode;
-use encoder_record::rds::NewEncodeRds;
-use encoder_record::rds::SetEncodeRds;
-use encoder_record::rds::StereoEncodeRds;
+use encoder_record_rds::rds::NewEncodeRds;
+use encoder_record_rds::rds::SetEncodeRds;
+use encoder_record_rds::rds::StereoEncodeRds;
 use oscillator::nco::Increment;
 use oscillator::nco::Nco;
 use oscillator::nco::NewNco;
 use oscillator::nco::SetNco;
-use test_lines::words::f32_of;
+use test_words::words::f32_of;
 
 fn increment(name: &[u8], freq: f64, rate: f64) {
     line(name);
@@ -79,7 +79,7 @@ fn construct(name: &[u8], frequency: f64, main: f32, pilot: f32, rds: f32, rate:
 }
 
 fn level(x: f32) {
-    number(test_lines::words::word_f32(x));
+    number(test_words::words::word_f32(x));
 }
 
 // Both setters, on an encoder whose amplitude and level are 0.125; the level after each follows

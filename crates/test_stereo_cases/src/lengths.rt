@@ -7,7 +7,7 @@ use crate::write::number;
 use crate::write::refusal;
 use answers::answer::Answer;
 use answers::answer::code_of;
-use encoder_record::rds::StereoEncodeRds;
+use encoder_record_rds::rds::StereoEncodeRds;
 use libc::STDOUT_FILENO;
 
 // A block's answer, with its lengths.
@@ -48,7 +48,7 @@ fn with_rds(table: &[f32], right: &[f32], rds: &[f32], out: &mut [f32]) {
     let left = [0.5f32; 4];
     let enc = an_encoder();
     let e = StereoEncodeRds { enc, rds: 0.125 };
-    let reply = encoder::rds::encode(e, table, &left, right, rds, out);
+    let reply = encoder_rds::rds::encode(e, table, &left, right, rds, out);
     let a = reply.answer;
     said(a);
     number(reply.encoder.enc.nco.phase as u64);

@@ -7,12 +7,12 @@ use answers::answer::is_accepted;
 use encoder_record::encode::NewEncode;
 use encoder_record::encode::SetEncode;
 use encoder_record::encode::StereoEncode;
-use encoder_record::rds::NewEncodeRds;
-use encoder_record::rds::SetEncodeRds;
-use encoder_record::rds::StereoEncodeRds;
+use encoder_record_rds::rds::NewEncodeRds;
+use encoder_record_rds::rds::SetEncodeRds;
+use encoder_record_rds::rds::StereoEncodeRds;
 use oscillator::nco::Increment;
 use oscillator::nco::Nco;
-use test_lines::words;
+use test_words::words;
 
 // A refusal in the place of an increment is 2^32 and its number.
 fn refused(n: u32) -> u64 {
@@ -156,7 +156,7 @@ fn encode_rds(cos: &[f32], seed: u64, k: u64, e: StereoEncodeRds) -> u64 {
     let right = seeds::block_f32(seeds::second(seed));
     let rds = seeds::block_f32(seeds::third(seed));
     let mut output = [0.0f32; 16];
-    let reply = encoder::rds::encode(e, cos, &left, &right, &rds, &mut output);
+    let reply = encoder_rds::rds::encode(e, cos, &left, &right, &rds, &mut output);
     let a = reply.answer;
     accepted(
         a,
@@ -172,18 +172,18 @@ fn encode_rds(cos: &[f32], seed: u64, k: u64, e: StereoEncodeRds) -> u64 {
 fn of_phase(cos: &[f32], cos_q15: &[i16], x: Case) -> u64 {
     let function = x.function;
     match function {
-        names::COS_F32 => words::word_f32(phase::lookup::cos_f32(cos, words::u32_of(x.a))),
+        names::COS_F32 => words::word_f32(lookup::lookup::cos_f32(cos, words::u32_of(x.a))),
         names::PAIR_C => {
-            let pair = phase::lookup::interp_f32_pair(cos, words::u32_of(x.a));
+            let pair = lookup::lookup::interp_f32_pair(cos, words::u32_of(x.a));
             words::word_f32(pair.c)
         }
         names::PAIR_S => {
-            let pair = phase::lookup::interp_f32_pair(cos, words::u32_of(x.a));
+            let pair = lookup::lookup::interp_f32_pair(cos, words::u32_of(x.a));
             words::word_f32(pair.s)
         }
-        names::COS_Q15 => words::word_i16(phase::lookup::cos_q15(cos_q15, words::u32_of(x.a))),
+        names::COS_Q15 => words::word_i16(lookup_q15::in_q15::cos_q15(cos_q15, words::u32_of(x.a))),
         names::INTERP_Q15 => {
-            words::word_i32(phase::lookup::interp_q15(cos_q15, words::u32_of(x.a)))
+            words::word_i32(lookup_q15::in_q15::interp_q15(cos_q15, words::u32_of(x.a)))
         }
         names::CORRECTION_PLAIN => {
             words::word_u32(phase::correction::correction_plain(words::f32_of(x.a)))

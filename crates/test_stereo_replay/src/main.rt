@@ -11,8 +11,8 @@ mod tally;
 
 // A proved loop has to end, and nothing says that a file does: so the loop counts its turns down,
 // from a number that no run uses up.
-fn replay(fd: i32, cos: &[f32], cos_q15: &[i16]) -> test_lines::tally::Tally {
-    let mut t = test_lines::tally::fresh();
+fn replay(fd: i32, cos: &[f32], cos_q15: &[i16]) -> test_tally::tally::Tally {
+    let mut t = test_tally::tally::fresh();
     let mut turns = u64::MAX;
     while turns > 0 {
         t = tally::next(fd, cos, cos_q15, t);
@@ -31,7 +31,7 @@ fn run(fd: i32) {
     let mut cos_q15 = [0i16; 4097];
     test_samples::fill_q15(seeds::TABLE_Q15, &mut cos_q15);
     let t = replay(fd, &cos, &cos_q15);
-    test_lines::tally::report(t, &names::NAMES);
+    test_tally::tally::report(t, &names::NAMES);
 }
 
 fn main() {

@@ -1,17 +1,17 @@
 // Reads the list line by line and judges each.
-use test_lines::tally::Tally;
+use test_tally::tally::Tally;
 
 // The tally after one line.
 fn judge(cos: &[f32], cos_q15: &[i16], t: Tally, line: &[u8; 119]) -> Tally {
     let read = crate::line::parse(line);
     match read {
-        crate::line::Read::Malformed => test_lines::tally::refuse(t, line),
+        crate::line::Read::Malformed => test_tally::tally::refuse(t, line),
         crate::line::Read::Case(case) => {
             let got = crate::answer::answer(cos, cos_q15, case);
             if got == case.answer {
-                test_lines::tally::agree(t, case.function)
+                test_tally::tally::agree(t, case.function)
             } else {
-                test_lines::tally::differ(t, line, got)
+                test_tally::tally::differ(t, line, got)
             }
         }
     }
@@ -26,7 +26,7 @@ pub(crate) fn next(fd: i32, cos: &[f32], cos_q15: &[i16], t: Tally) -> Tally {
     }
     let mut out = t;
     if n > 0 {
-        out = test_lines::tally::refuse(t, &line);
+        out = test_tally::tally::refuse(t, &line);
     }
-    test_lines::tally::end(out)
+    test_tally::tally::end(out)
 }

@@ -4,7 +4,7 @@ use crate::show;
 use counted::answer_of;
 use summary::SummarizedF32;
 use summary_q15::SummarizedQ15;
-use test_lines::words::f32_of;
+use test_words::words::f32_of;
 ghost use Prim.Native.Nat.{_≤_};
 ghost use lib.ListN.{length};
 

@@ -6,7 +6,7 @@ use crate::call::fitting;
 use crate::call::run;
 use crate::start;
 use summary_counts::Counts;
-use test_lines::words::f32_of;
+use test_words::words::f32_of;
 ghost use mathlib.Core.Path.{_≡_};
 ghost use Prim.Native.Nat.{_≤_};
 ghost use lib.ListN.{length};

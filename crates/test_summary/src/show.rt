@@ -18,12 +18,12 @@ pub(crate) fn count(n: u32) {
 }
 
 pub(crate) fn yes(b: bool) {
-    number(test_lines::words::word_bool(b));
+    number(test_words::words::word_bool(b));
 }
 
 // A float by its bit pattern.
 pub(crate) fn pattern(x: f32) {
-    number(test_lines::words::word_f32(x));
+    number(test_words::words::word_f32(x));
 }
 
 // A word in two's complement.
@@ -37,11 +37,11 @@ fn twos(w: u64) {
 }
 
 pub(crate) fn signed(z: i64) {
-    twos(test_lines::words::word_i64(z));
+    twos(test_words::words::word_i64(z));
 }
 
 pub(crate) fn sample(x: i16) {
-    twos(test_lines::words::word_i16(x));
+    twos(test_words::words::word_i16(x));
 }
 
 // A block's answer, with its lengths.

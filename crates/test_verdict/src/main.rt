@@ -4,8 +4,8 @@
 use encoder_record::encode::NewEncode;
 use encoder_record::encode::StereoEncode;
 use libc::STDOUT_FILENO;
-use test_lines::words::f32_of;
-use test_lines::words::f64_of;
+use test_words::words::f32_of;
+use test_words::words::f64_of;
 
 fn verdict(frequency: f64, amplitude: f32) {
     if verdict::on_air(frequency, amplitude) {

@@ -1,6 +1,7 @@
-//! crates/c_decoder and crates/c_merged. A struct that both formats have is one here, over the
-//! format's number V; S is the format's sample. W is how many corrections took the wide way, a usize
-//! in what a fast f32 call replies, and `()` elsewhere, where nothing counts them.
+//! crates/c_decoder, crates/c_decoder_q15, crates/c_matrix and crates/c_merged. A struct that both
+//! formats have is one here, over the format's number V; S is the format's sample. W is how many
+//! corrections took the wide way, a usize in what a fast f32 call replies, and `()` elsewhere, where
+//! nothing counts them.
 
 use std::fmt::Debug;
 

@@ -1,4 +1,4 @@
-//! crates/c_encoder.
+//! crates/c_oscillator, crates/c_encoder and crates/c_encoder_rds.
 
 use crate::Code;
 

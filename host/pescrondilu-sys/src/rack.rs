@@ -1,5 +1,6 @@
-//! crates/c_rack and crates/c_rack_slices: a round of a rack. A struct that both formats have is one
-//! here, over the format's number V or its sample S, and its count of wide corrections W.
+//! crates/c_rack, crates/c_rack_slices, and the same in Q15 (crates/c_rack_q15,
+//! crates/c_rack_slices_q15): a round of a rack. A struct that both formats have is one here, over
+//! the format's number V or its sample S, and its count of wide corrections W.
 
 use crate::Code;
 use crate::decoder::{Decoder, Sample};

@@ -1,5 +1,6 @@
-//! crates/c_summary: a summary beside the pairs. A struct that both formats have is one here, over
-//! the format's sample S, the decoder's number V and the count of wide corrections W.
+//! crates/c_summary and crates/c_summary_q15: a summary beside the pairs. A struct that both formats
+//! have is one here, over the format's sample S, the decoder's number V and the count of wide
+//! corrections W.
 
 use crate::Code;
 use crate::decoder::{Decoder, Sample};

@@ -11,11 +11,11 @@ use Rattle.decoder_record.specs.State.{Pll}
 use Rattle.decoder_record.specs.Records.{pllF32}
 use Rattle.decoder.specs.F32.{f32}
 use Rattle.rack_waiting.proofs.Loops.{constant}
-use Rattle.rack.specs.Round.{Queue}
-use Rattle.rack.specs.Flat.{queuesOf}
-use Rattle.rack.proofs.Working.{length-queues}
-use Rattle.rack.proofs.Rounds.{Answered, same-queues, answer-is, refused, agree, some, carried-out}
-use Rattle.rack.proofs.Wide.{Replied, wides-refused, wides-carried-out}
+use Rattle.rack_round.specs.Round.{Queue}
+use Rattle.rack_round.specs.Flat.{queuesOf}
+use Rattle.rack_round.proofs.Working.{length-queues}
+use Rattle.rack_round.proofs.Rounds.{Answered, same-queues, answer-is, refused, agree, some, carried-out}
+use Rattle.rack_round.proofs.Wide.{Replied, wides-refused, wides-carried-out}
 use Rattle.rack.proofs.round.Statement.{statement}
 use Rattle.rack.proofs.round.Tie as tie
 

@@ -8,13 +8,13 @@ use lib.Ieee.{Float}
 use Rattle.counted.specs.Counted.{saidIn, countIn}
 use Rattle.decoder_record.specs.Records.{pllF32}
 use Rattle.decoder.specs.F32.{f32}
-use Rattle.rack.specs.Round.{Queue}
-use Rattle.rack.specs.Flat.{queuesOf}
+use Rattle.rack_round.specs.Round.{Queue}
+use Rattle.rack_round.specs.Flat.{queuesOf}
 use Rattle.rack_waiting.proofs.Loops.{map-set}
 use Rattle.rack.proofs.Absent.{absent}
-use Rattle.rack.proofs.Parts.{scaled, small, place, falls, next-fits, end-fits}
-use Rattle.rack.proofs.Working.{length-queues, Working, Inside, working-start, sum-kept, difference-kept, working-end, room, taken-room, working-next}
-use Rattle.rack.proofs.Wide.{Wides, wides-start, wides-end, wides-lent}
+use Rattle.rack_round.proofs.Parts.{scaled, small, place, falls, next-fits, end-fits}
+use Rattle.rack_round.proofs.Working.{length-queues, Working, Inside, working-start, sum-kept, difference-kept, working-end, room, taken-room, working-next}
+use Rattle.rack_round.proofs.Wide.{Wides, wides-start, wides-end, wides-lent}
 use Rattle.rack.proofs.work.Statement.{statement}
 use Rattle.rack.proofs.work.Tie as tie
 

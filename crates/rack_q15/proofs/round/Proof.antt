@@ -11,10 +11,10 @@ use Rattle.decoder_record_q15.specs.Records.{pllQ15}
 use Rattle.decoder_record_q15.specs.Fit.{fitQ15}
 use Rattle.decoder_q15.specs.Q15.{q15}
 use Rattle.rack_waiting.proofs.Loops.{constant}
-use Rattle.rack.specs.Round.{Queue}
-use Rattle.rack.specs.Flat.{queuesOf}
-use Rattle.rack.proofs.Working.{length-queues}
-use Rattle.rack.proofs.Rounds.{Answered, refused, agree, some, carried-out}
+use Rattle.rack_round.specs.Round.{Queue}
+use Rattle.rack_round.specs.Flat.{queuesOf}
+use Rattle.rack_round.proofs.Working.{length-queues}
+use Rattle.rack_round.proofs.Rounds.{Answered, refused, agree, some, carried-out}
 use Rattle.rack_q15.proofs.round.Statement.{statement}
 use Rattle.rack_q15.proofs.round.Tie as tie
 

@@ -8,11 +8,11 @@ use lib.IntN.{ℤ}
 use Rattle.answers.specs.Answer.{says}
 use Rattle.decoder_record_q15.specs.Records.{pllQ15}
 use Rattle.decoder_q15.specs.Q15.{q15}
-use Rattle.rack.specs.Round.{Queue}
+use Rattle.rack_round.specs.Round.{Queue}
 use Rattle.rack_waiting.proofs.Loops.{map-set}
 use Rattle.rack_q15.proofs.Absent.{absent}
-use Rattle.rack.proofs.Parts.{scaled, small, place, falls, next-fits, end-fits}
-use Rattle.rack.proofs.Working.{Working, Inside, working-start, sum-kept, difference-kept, working-end, room, taken-room, working-next}
+use Rattle.rack_round.proofs.Parts.{scaled, small, place, falls, next-fits, end-fits}
+use Rattle.rack_round.proofs.Working.{Working, Inside, working-start, sum-kept, difference-kept, working-end, room, taken-room, working-next}
 use Rattle.rack_q15.proofs.work.Statement.{statement}
 use Rattle.rack_q15.proofs.work.Tie as tie
 

@@ -12,11 +12,11 @@ use Rattle.decoder_record.specs.State.{Pll}
 use Rattle.decoder_record.specs.Records.{pllF32}
 use Rattle.decoder.specs.F32.{f32}
 use Rattle.rack_waiting.proofs.Loops.{constant}
-use Rattle.rack.specs.Round.{waitingOf}
-use Rattle.rack.proofs.Wide.{Replied, wides-refused, wides-carried-out}
-use Rattle.rack_slices.specs.Slices.{addressesOf, Slices, queuesAt}
-use Rattle.rack_slices.proofs.Lending.{slicesIn}
-use Rattle.rack_slices.proofs.Rounds.{Answered, answer-is, refused, even, some, carried-out}
+use Rattle.rack_round.specs.Round.{waitingOf}
+use Rattle.rack_round.proofs.Wide.{Replied, wides-refused, wides-carried-out}
+use Rattle.rack_slices_round.specs.Slices.{addressesOf, Slices, queuesAt}
+use Rattle.rack_slices_round.proofs.Lending.{slicesIn}
+use Rattle.rack_slices_round.proofs.Rounds.{Answered, answer-is, refused, even, some, carried-out}
 use Rattle.rack_slices.proofs.round.Statement.{statement}
 use Rattle.rack_slices.proofs.round.Tie as tie
 

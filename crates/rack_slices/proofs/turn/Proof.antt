@@ -6,9 +6,9 @@ use lib.Ieee.{Float}
 use Rattle.counted.specs.Counted.{saidIn}
 use Rattle.decoder_record.specs.Records.{pllF32}
 use Rattle.decoder.specs.F32.{f32}
-use Rattle.rack.specs.Round.{Queue}
-use Rattle.rack.proofs.Wide.{turn-wide}
-use Rattle.rack_slices.proofs.Turns.{turn-is}
+use Rattle.rack_round.specs.Round.{Queue}
+use Rattle.rack_round.proofs.Wide.{turn-wide}
+use Rattle.rack_slices_round.proofs.Turns.{turn-is}
 use Rattle.rack_slices.proofs.turn.Statement.{statement}
 use Rattle.rack_slices.proofs.turn.Tie as tie
 

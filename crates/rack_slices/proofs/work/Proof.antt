@@ -11,11 +11,11 @@ use Rattle.answers.proofs.Passes.{length-samples}
 use Rattle.decoder_record.specs.Records.{pllF32}
 use Rattle.decoder.specs.F32.{f32}
 use Rattle.rack.proofs.Absent.{absent}
-use Rattle.rack.proofs.Parts.{scaled, small, falls, next-fits}
-use Rattle.rack.proofs.Wide.{Wides, wides-start, wides-end}
-use Rattle.rack_slices.specs.Slices.{queuesAt}
-use Rattle.rack_slices.proofs.Lending.{slicesIn, Lending, lending-start, sums-kept, differences-kept, lending-end, lending-past, in-mpx, in-pilot, in-sum, in-difference, lent-long, lending-next}
-use Rattle.rack_slices.proofs.Wide.{wides-turned, wides-passed}
+use Rattle.rack_round.proofs.Parts.{scaled, small, falls, next-fits}
+use Rattle.rack_round.proofs.Wide.{Wides, wides-start, wides-end}
+use Rattle.rack_slices_round.specs.Slices.{queuesAt}
+use Rattle.rack_slices_round.proofs.Lending.{slicesIn, Lending, lending-start, sums-kept, differences-kept, lending-end, lending-past, in-mpx, in-pilot, in-sum, in-difference, lent-long, lending-next}
+use Rattle.rack_slices_round.proofs.Wide.{wides-turned, wides-passed}
 use Rattle.rack_slices.proofs.work.Statement.{statement}
 use Rattle.rack_slices.proofs.work.Tie as tie
 

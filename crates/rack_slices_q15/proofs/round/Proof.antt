@@ -10,10 +10,10 @@ use Rattle.decoder_record.specs.State.{Pll}
 use Rattle.decoder_record_q15.specs.Records.{pllQ15}
 use Rattle.decoder_record_q15.specs.Fit.{fitQ15}
 use Rattle.decoder_q15.specs.Q15.{q15}
-use Rattle.rack.specs.Round.{waitingOf}
-use Rattle.rack_slices.specs.Slices.{addressesOf, Slices, queuesAt}
-use Rattle.rack_slices.proofs.Lending.{slicesIn}
-use Rattle.rack_slices.proofs.Rounds.{Answered, refused, even, some, carried-out}
+use Rattle.rack_round.specs.Round.{waitingOf}
+use Rattle.rack_slices_round.specs.Slices.{addressesOf, Slices, queuesAt}
+use Rattle.rack_slices_round.proofs.Lending.{slicesIn}
+use Rattle.rack_slices_round.proofs.Rounds.{Answered, refused, even, some, carried-out}
 use Rattle.rack_slices_q15.proofs.round.Statement.{statement}
 use Rattle.rack_slices_q15.proofs.round.Tie as tie
 

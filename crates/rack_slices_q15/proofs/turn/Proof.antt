@@ -5,7 +5,7 @@ use borrow.Author.Needs.{needs}
 use Rattle.answers.specs.Answer.{says}
 use Rattle.decoder_record_q15.specs.Records.{pllQ15}
 use Rattle.decoder_q15.specs.Q15.{q15}
-use Rattle.rack_slices.proofs.Turns.{turn-is}
+use Rattle.rack_slices_round.proofs.Turns.{turn-is}
 use Rattle.rack_slices_q15.proofs.turn.Statement.{statement}
 use Rattle.rack_slices_q15.proofs.turn.Tie as tie
 

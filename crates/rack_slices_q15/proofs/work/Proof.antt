@@ -7,8 +7,8 @@ use lib.ListN.{length}
 use Rattle.decoder_record_q15.specs.Records.{pllQ15}
 use Rattle.decoder_q15.specs.Q15.{q15}
 use Rattle.rack_q15.proofs.Absent.{absent}
-use Rattle.rack.proofs.Parts.{scaled, small, falls, next-fits}
-use Rattle.rack_slices.proofs.Lending.{Lending, lending-start, sums-kept, differences-kept, lending-end, lending-past, in-mpx, in-pilot, in-sum, in-difference, lent-long, lending-next}
+use Rattle.rack_round.proofs.Parts.{scaled, small, falls, next-fits}
+use Rattle.rack_slices_round.proofs.Lending.{Lending, lending-start, sums-kept, differences-kept, lending-end, lending-past, in-mpx, in-pilot, in-sum, in-difference, lent-long, lending-next}
 use Rattle.rack_slices_q15.proofs.work.Statement.{statement}
 use Rattle.rack_slices_q15.proofs.work.Tie as tie
 

@@ -11,9 +11,9 @@ use Rattle.decoder_fast.specs.Wide.{countOf}
 use Rattle.decoder_fast.proofs.Counting.{carries-none, carries}
 use Rattle.summary_record.specs.Record.{summaryFit}
 use Rattle.summary_record.specs.F32.{unsignedF32, summaryF32}
-use Rattle.summary.specs.Summary.{Columns}
+use Rattle.summary_call.specs.Summary.{Columns}
 use Rattle.summary.specs.Wide.{summaryCount}
-use Rattle.summary.proofs.Ways.{Asked, says-is, turned-back, fit-summary, asked, carried-out}
+use Rattle.summary_call.proofs.Ways.{Asked, says-is, turned-back, fit-summary, asked, carried-out}
 use Rattle.summary.proofs.block.Statement.{statement}
 use Rattle.summary.proofs.block.Tie as tie
 

@@ -21,7 +21,7 @@ use Rattle.summary_counts.specs.Counts.{endingOf}
 use Rattle.summary_record.specs.F32.{unsignedF32, summaryF32}
 use Rattle.summary_record.proofs.Fits.{fitted}
 use Rattle.summary_record.proofs.Sign.{unsigned-f32}
-use Rattle.summary.proofs.Noting.{Noting, noting-start, noting-on, noting-full, noting-end, has-place}
+use Rattle.summary_call.proofs.Noting.{Noting, noting-start, noting-on, noting-full, noting-end, has-place}
 use Rattle.summary.proofs.run.Statement.{statement}
 use Rattle.summary.proofs.run.Tie as tie
 

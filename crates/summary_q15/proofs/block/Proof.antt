@@ -10,8 +10,8 @@ use Rattle.decoder.specs.Machine.{lengthCauses, blockSays}
 use Rattle.decoder_q15.specs.Q15.{q15}
 use Rattle.summary_record.specs.Record.{summaryFit}
 use Rattle.summary_record.specs.Q15.{unsignedQ15, summaryQ15}
-use Rattle.summary.specs.Summary.{Columns}
-use Rattle.summary.proofs.Ways.{Asked, turned-back, fit-summary, asked, carried-out}
+use Rattle.summary_call.specs.Summary.{Columns}
+use Rattle.summary_call.proofs.Ways.{Asked, turned-back, fit-summary, asked, carried-out}
 use Rattle.summary_q15.proofs.block.Statement.{statement}
 use Rattle.summary_q15.proofs.block.Tie as tie
 

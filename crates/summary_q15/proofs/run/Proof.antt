@@ -19,7 +19,7 @@ use Rattle.decoder_q15.proofs.Kept.{fit-next}
 use Rattle.summary_counts.specs.Counts.{endingOf}
 use Rattle.summary_record.specs.Record.{Summary, largerOf}
 use Rattle.summary_record.proofs.Fits.{fitted}
-use Rattle.summary.proofs.Noting.{Noting, noting-start, noting-on, noting-full, noting-end, has-place}
+use Rattle.summary_call.proofs.Noting.{Noting, noting-start, noting-on, noting-full, noting-end, has-place}
 use Rattle.summary_record.specs.Q15.{unsignedQ15, summaryQ15}
 use Rattle.summary_record.proofs.Negative.{unsigned-q15}
 use Rattle.summary_q15.proofs.Difference.{difference-above}

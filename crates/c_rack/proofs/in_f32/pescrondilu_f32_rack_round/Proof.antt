@@ -4,9 +4,9 @@ use mathlib.Core.List.{List}
 use lib.Ieee.{Float}
 use Rattle.decoder_record.specs.State.{Pll}
 use Rattle.decoder.specs.F32.{f32}
-use Rattle.rack.specs.Round.{Queue}
-use Rattle.rack.specs.Flat.{queuesOf, flatOf}
-use Rattle.rack.specs.Wide.{roundWide}
+use Rattle.rack_round.specs.Round.{Queue}
+use Rattle.rack_round.specs.Flat.{queuesOf, flatOf}
+use Rattle.rack_round.specs.Wide.{roundWide}
 use Rattle.c_rack.specs.Coded.{codedRound}
 use Rattle.c_rack.proofs.in_f32.pescrondilu_f32_rack_round.Statement.{statement}
 use Rattle.c_rack.proofs.in_f32.pescrondilu_f32_rack_round.Tie as tie

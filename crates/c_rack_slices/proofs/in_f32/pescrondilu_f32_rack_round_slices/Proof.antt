@@ -4,9 +4,9 @@ use mathlib.Core.List.{List}
 use lib.Ieee.{Float}
 use Rattle.decoder_record.specs.State.{Pll}
 use Rattle.decoder.specs.F32.{f32}
-use Rattle.rack.specs.Wide.{roundWide}
-use Rattle.rack_slices.specs.Slices.{queuesAt, slicesOf}
-use Rattle.rack_slices.proofs.Lending.{slicesIn}
+use Rattle.rack_round.specs.Wide.{roundWide}
+use Rattle.rack_slices_round.specs.Slices.{queuesAt, slicesOf}
+use Rattle.rack_slices_round.proofs.Lending.{slicesIn}
 use Rattle.c_rack_slices.specs.Coded.{codedSlices}
 use Rattle.c_rack_slices.proofs.in_f32.pescrondilu_f32_rack_round_slices.Statement.{statement}
 use Rattle.c_rack_slices.proofs.in_f32.pescrondilu_f32_rack_round_slices.Tie as tie

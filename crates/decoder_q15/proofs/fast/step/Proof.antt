@@ -9,7 +9,7 @@ use native.Mathlib.Omega.{arith}
 use lib.Signed.{leZ}
 use mathlib.Core.Bool.{true}
 use Rattle.rounding.proofs.Lin.{back, le-yes-in}
-use Rattle.phase.specs.Lookup.{sineAt, cosQ15}
+use Rattle.lookup.specs.Lookup.{sineAt, cosQ15}
 use Rattle.decoder_record.specs.State.{Pll}
 use Rattle.decoder_q15.specs.Q15.{levelQ15}
 use Rattle.decoder_record_q15.specs.Records.{pllQ15}

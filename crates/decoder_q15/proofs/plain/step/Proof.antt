@@ -6,7 +6,7 @@ use mir.Syntax.{w16, w64}
 use mir.Val.{toZ, ofZ}
 use mir.Facts.{toZ-ofZ}
 use Rattle.rounding.proofs.Lin.{back}
-use Rattle.phase.specs.Lookup.{sineAt, cosQ15}
+use Rattle.lookup.specs.Lookup.{sineAt, cosQ15}
 use Rattle.decoder_record.specs.State.{Pll}
 use Rattle.decoder_q15.specs.Q15.{levelQ15}
 use Rattle.decoder_record_q15.specs.Records.{pllQ15}

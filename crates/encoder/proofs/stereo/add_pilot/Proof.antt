@@ -5,7 +5,7 @@ use native.Mathlib.Omega.{arith}
 use native.Mathlib.Nat.{le-refl}
 use lib.ListN.{length, getD}
 use lib.Ieee.{nan, binary32, add, mul}
-use Rattle.phase.specs.Lookup.{sineAt, cosF32}
+use Rattle.lookup.specs.Lookup.{sineAt, cosF32}
 use Rattle.encoder.proofs.Phases.{Sent, sent-start, sent-next, sent-end}
 use Rattle.answers.proofs.Passes.{Untouched, untouched-start, untouched-next}
 use Rattle.encoder.proofs.stereo.add_pilot.Statement.{statement}

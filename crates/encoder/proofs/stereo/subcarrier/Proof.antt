@@ -3,7 +3,7 @@ use Prim.Native.Nat.{_-_}
 use mathlib.Core.Path.{refl, _∙_}
 use native.Mathlib.Omega.{arith}
 use lib.ListN.{length}
-use Rattle.phase.specs.Lookup.{sineAt, cosF32}
+use Rattle.lookup.specs.Lookup.{sineAt, cosF32}
 use Rattle.encoder.proofs.Phases.{Sent, sent-start, sent-next, sent-end}
 use Rattle.encoder.proofs.stereo.subcarrier.Statement.{statement}
 use Rattle.encoder.proofs.stereo.subcarrier.Tie as tie

@@ -1,9 +1,9 @@
 use mathlib.Core.Path.{ap, _∙_}
 use native.Mathlib.Omega.{arith}
 use borrow.Author.Needs.{needs}
-use Rattle.rds.specs.Blocks.{bitsOf}
+use Rattle.rds_blocks.specs.Blocks.{bitsOf}
 use Rattle.rds.specs.Coding.{sentOf}
-use Rattle.rds.proofs.Checks.{block-bits}
+use Rattle.rds_blocks.proofs.Checks.{block-bits}
 use Rattle.rds.proofs.Codes.{unlike-is, Sending, sending-start, sending-next, sending-end}
 use Rattle.rds.proofs.former.send.Statement.{statement}
 use Rattle.rds.proofs.former.send.Tie as tie
@@ -35,7 +35,7 @@ send-spec =
     (λ c κs. search needs)
     (λ c. sending-start (search needs))
     (λ c. omega arith)
-    (λ c κs. let w = c .before .loop .inv in omega (arith, w .some))
+    (λ c κs. search needs)
     (λ c κs. search needs)
     (λ c. search needs)
     (λ c. let w = c .before .before .before .loop .inv in omega (arith, w .some))

@@ -1,7 +1,7 @@
 use mathlib.Core.Path.{sym, ap, _∙_}
 use mathlib.Core.Bool.{Bool, cond}
 use borrow.Author.Needs.{needs}
-use Rattle.rds.specs.declared.blocks.Offset.the-variants.{C, CPrime}
+use Rattle.rds_blocks.specs.declared.blocks.Offset.the-variants.{C, CPrime}
 use Rattle.rds.proofs.former.third_offset.Statement.{statement}
 use Rattle.rds.proofs.former.third_offset.Tie as tie
 

@@ -1,0 +1,2 @@
+pub mod NumbersQ15
+pub mod Free

@@ -1,0 +1,2 @@
+pub mod NumbersRds
+pub mod Free

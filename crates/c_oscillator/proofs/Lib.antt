@@ -1,0 +1,2 @@
+pub mod NumbersNco
+pub mod Free

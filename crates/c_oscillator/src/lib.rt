@@ -1,0 +1,2 @@
+// The oscillator under C names, for a program in Rust or C to call.
+mod nco;

@@ -1,6 +1,0 @@
-use borrow.Author.Needs.{needs}
-use Rattle.c_summary.proofs.in_q15.taken.Statement.{statement}
-use Rattle.c_summary.proofs.in_q15.taken.Tie as tie
-
-pub taken-spec : {M : Type 1} → statement M
-taken-spec = tie.close (tie.spec (λ c κs. search needs) (λ c. rw (c .before .is-on .ensures) (search needs)))

@@ -1,0 +1,2 @@
+// Which Q15 records a block takes.
+pub mod fit;

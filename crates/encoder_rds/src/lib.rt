@@ -1,0 +1,2 @@
+// The block of the encoder with RDS.
+pub mod rds;

@@ -1,0 +1,5 @@
+pub mod Parts
+pub mod Working
+pub mod Turns
+pub mod Wide
+pub mod Rounds
