@@ -15,7 +15,7 @@ ghost use Rattle.answers.specs.Answer.{
 pub const ENTRIES: usize = 4097;
 
 // Carried out, or turned back with the lengths at fault.
-#[derive(Drop)]
+#[derive(Clone, Copy)]
 pub enum Answer {
     Accepted,
     // a Q15 decoder's record is unfit
@@ -37,7 +37,7 @@ pub enum Answer {
 // An answer in three numbers, for C and for lists of answers: 0, or 100 and the cause's number; then
 // the two lengths, 0 where there are none.
 #[repr(C)]
-#[derive(Drop)]
+#[derive(Clone, Copy)]
 pub struct Code {
     pub code: u32,
     pub expected: usize,

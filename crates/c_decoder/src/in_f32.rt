@@ -19,7 +19,7 @@ use decoder_record::pll_f32::{NewF32, StereoPllF32};
 
 // The record in C.
 #[repr(C)]
-#[derive(Drop)]
+#[derive(Clone, Copy)]
 pub struct DecoderF32 {
     pub kp: f32,
     pub ki: f32,
@@ -37,7 +37,7 @@ pub struct DecoderF32 {
 
 // 0, or 100 and the cause's number; and the decoder.
 #[repr(C)]
-#[derive(Drop)]
+#[derive(Clone, Copy)]
 pub struct CodedF32 {
     pub code: u32,
     pub decoder: DecoderF32,
@@ -45,7 +45,7 @@ pub struct CodedF32 {
 
 // What a block answers, and the decoder after it.
 #[repr(C)]
-#[derive(Drop)]
+#[derive(Clone, Copy)]
 pub struct ReplyF32 {
     pub answer: Code,
     pub decoder: DecoderF32,
@@ -54,7 +54,7 @@ pub struct ReplyF32 {
 // What a fast block answers, how many of its corrections took the wide way, 0 where it was turned back,
 // and the decoder after it.
 #[repr(C)]
-#[derive(Drop)]
+#[derive(Clone, Copy)]
 pub struct CountedF32 {
     pub answer: Code,
     pub wide: usize,
@@ -63,7 +63,7 @@ pub struct CountedF32 {
 
 // What a scan of a pilot tells.
 #[repr(C)]
-#[derive(Drop)]
+#[derive(Clone, Copy)]
 pub struct ScannedF32 {
     pub finite: u32,
     pub read: usize,

@@ -2,7 +2,7 @@
 
 // What the read-outs say: turns a sample and the level as f64, and the switches as 0 or 1.
 #[repr(C)]
-#[derive(Drop)]
+#[derive(Clone, Copy)]
 pub struct Readout {
     pub integrator: f64,
     pub integrator_limit: f64,

@@ -15,7 +15,7 @@ use decoder_record_q15::pll_q15::{NewQ15, StereoPllQ15};
 
 // The record in C.
 #[repr(C)]
-#[derive(Drop)]
+#[derive(Clone, Copy)]
 pub struct DecoderQ15 {
     pub kp: i64,
     pub ki: i64,
@@ -33,7 +33,7 @@ pub struct DecoderQ15 {
 
 // 0, or 100 and the cause's number; and the decoder.
 #[repr(C)]
-#[derive(Drop)]
+#[derive(Clone, Copy)]
 pub struct CodedQ15 {
     pub code: u32,
     pub decoder: DecoderQ15,
@@ -41,7 +41,7 @@ pub struct CodedQ15 {
 
 // What a block answers, and the decoder after it.
 #[repr(C)]
-#[derive(Drop)]
+#[derive(Clone, Copy)]
 pub struct ReplyQ15 {
     pub answer: Code,
     pub decoder: DecoderQ15,

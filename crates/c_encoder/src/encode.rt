@@ -11,7 +11,7 @@ use oscillator::nco::Nco;
 
 // 0, or 100 and the cause's number; and the encoder.
 #[repr(C)]
-#[derive(Drop)]
+#[derive(Clone, Copy)]
 pub struct CodedEncode {
     pub code: u32,
     pub encoder: StereoEncode,
@@ -19,7 +19,7 @@ pub struct CodedEncode {
 
 // What a block answers, and the encoder after it.
 #[repr(C)]
-#[derive(Drop)]
+#[derive(Clone, Copy)]
 pub struct EncodeReply {
     pub answer: Code,
     pub encoder: StereoEncode,

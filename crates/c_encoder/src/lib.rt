@@ -1,6 +1,8 @@
 // The encoder and the verdict under C names, for a program in Rust or C to call.
 // Records go in and out by value, a slice is a pointer and then a length, and answers are numbers,
 // as specs/Coded.antt defines them.
+#![tactic(auto)]
+
 ghost use Rattle.std.specs.Prelude.{◌≡◌};
 ghost use Rattle.answers.specs.Coded.{switch_of};
 ghost use Rattle.verdict.specs.Verdict.{on_air_of};

@@ -13,7 +13,7 @@ use oscillator::nco::Nco;
 
 // 0, or 100 and the cause's number; and the encoder.
 #[repr(C)]
-#[derive(Drop)]
+#[derive(Clone, Copy)]
 pub struct CodedEncodeRds {
     pub code: u32,
     pub encoder: StereoEncodeRds,
@@ -21,7 +21,7 @@ pub struct CodedEncodeRds {
 
 // What a block answers, and the encoder after it.
 #[repr(C)]
-#[derive(Drop)]
+#[derive(Clone, Copy)]
 pub struct EncodeRdsReply {
     pub answer: Code,
     pub encoder: StereoEncodeRds,

@@ -1,4 +1,6 @@
 // Left and right from one call under C names, for a program in Rust or C to call. The records are those
 // of c_decoder, and go in and out by value; answers are numbers, as specs/Coded.antt defines them.
+#![tactic(auto)]
+
 mod in_f32;
 mod in_q15;

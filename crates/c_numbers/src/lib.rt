@@ -1,6 +1,8 @@
 // The number helpers, the lookups and the corrections under C names, so that they can be compared
 // with the Rust by themselves. Each function has the contract of the one that it calls. A slice is a
 // pointer and then a length.
+#![tactic(auto)]
+
 ghost use Rattle.std.specs.Prelude.{◌≡◌, ◌^◌, pos, ◌*ℤ◌};
 ghost use Rattle.std.specs.Float.Ieee as Ieee;
 ghost use Rattle.std.specs.Float.{binary32, binary64};
@@ -20,7 +22,7 @@ use scale::scale::Q14;
 
 // 0 and the value, or 100 and the cause's number, and 0.
 #[repr(C)]
-#[derive(Drop)]
+#[derive(Clone, Copy)]
 pub struct CodedQ14 {
     pub code: u32,
     pub value: i16,

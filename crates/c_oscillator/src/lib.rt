@@ -1,2 +1,4 @@
 // The oscillator under C names, for a program in Rust or C to call.
+#![tactic(auto)]
+
 mod nco;

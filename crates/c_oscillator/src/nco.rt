@@ -8,7 +8,7 @@ use oscillator::nco::{Increment, Nco, NewNco, SetNco};
 
 // 0 and the increment, or 100 and the cause's number, and 0.
 #[repr(C)]
-#[derive(Drop)]
+#[derive(Clone, Copy)]
 pub struct CodedIncrement {
     pub code: u32,
     pub increment: u32,
@@ -16,7 +16,7 @@ pub struct CodedIncrement {
 
 // 0, or 100 and the cause's number; and the oscillator.
 #[repr(C)]
-#[derive(Drop)]
+#[derive(Clone, Copy)]
 pub struct CodedNco {
     pub code: u32,
     pub nco: Nco,

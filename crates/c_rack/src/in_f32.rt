@@ -14,7 +14,7 @@ use decoder_record::pll_f32::StereoPllF32;
 
 // The decoders in C, of which the first `number` are in use.
 #[repr(C)]
-#[derive(Drop)]
+#[derive(Clone, Copy)]
 pub struct RackF32 {
     pub decoders: [DecoderF32; 8],
     pub number: usize,
@@ -23,7 +23,7 @@ pub struct RackF32 {
 // What a round answers, how many samples each decoder took, how many of its corrections took the wide
 // way, and the rack after it.
 #[repr(C)]
-#[derive(Drop)]
+#[derive(Clone, Copy)]
 pub struct RoundF32 {
     pub answer: Code,
     pub taken: [usize; 8],

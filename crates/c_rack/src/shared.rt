@@ -3,7 +3,7 @@ use rack_waiting::Waiting;
 
 // What waits for each decoder; the places past the number are not read.
 #[repr(C)]
-#[derive(Drop)]
+#[derive(Clone, Copy)]
 pub struct RackWaiting {
     pub decoders: [Waiting; 8],
 }

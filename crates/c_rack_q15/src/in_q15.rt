@@ -14,7 +14,7 @@ use decoder_record_q15::pll_q15::StereoPllQ15;
 
 // The decoders in C, of which the first `number` are in use.
 #[repr(C)]
-#[derive(Drop)]
+#[derive(Clone, Copy)]
 pub struct RackQ15 {
     pub decoders: [DecoderQ15; 8],
     pub number: usize,
@@ -22,7 +22,7 @@ pub struct RackQ15 {
 
 // What a round answers, how many samples each decoder took, and the rack after it.
 #[repr(C)]
-#[derive(Drop)]
+#[derive(Clone, Copy)]
 pub struct RoundQ15 {
     pub answer: Code,
     pub taken: [usize; 8],

@@ -1,5 +1,7 @@
 // The group former under C names, for a program in Rust or C to call. The former's record goes in and out by
 // value, a slice is a pointer and then a length, and answers are numbers, as specs/Coded.antt defines them.
+#![tactic(auto)]
+
 ghost use Rattle.std.specs.Prelude.{◌≡◌};
 ghost use Rattle.answers.specs.Coded.{on_at, switch_of};
 ghost use Rattle.rds_blocks.specs.Division.{remainder_of};
@@ -12,14 +14,14 @@ use rds::former::{RdsFormer, RdsWords, group_code};
 
 // The former's record in C.
 #[repr(C)]
-#[derive(Drop)]
+#[derive(Clone, Copy)]
 pub struct Former {
     pub carried: u32,
 }
 
 // What a group's call answers, and the former after it.
 #[repr(C)]
-#[derive(Drop)]
+#[derive(Clone, Copy)]
 pub struct FormerReply {
     pub answer: Code,
     pub former: Former,

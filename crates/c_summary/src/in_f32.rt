@@ -18,7 +18,7 @@ use summary_record::in_f32::SummaryF32;
 
 // The record in C.
 #[repr(C)]
-#[derive(Drop)]
+#[derive(Clone, Copy)]
 pub struct SummaryRecordF32 {
     pub period: u32,
     pub stereo: u32,
@@ -31,7 +31,7 @@ pub struct SummaryRecordF32 {
 // What a block answers, how many of its corrections took the wide way, 0 where it was turned back, and
 // the decoder and the summary after it.
 #[repr(C)]
-#[derive(Drop)]
+#[derive(Clone, Copy)]
 pub struct SummaryReplyF32 {
     pub answer: Code,
     pub wide: usize,

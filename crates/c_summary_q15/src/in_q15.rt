@@ -17,7 +17,7 @@ use summary_record::in_q15::SummaryQ15;
 
 // The record in C.
 #[repr(C)]
-#[derive(Drop)]
+#[derive(Clone, Copy)]
 pub struct SummaryRecordQ15 {
     pub period: u32,
     pub stereo: u32,
@@ -29,7 +29,7 @@ pub struct SummaryRecordQ15 {
 
 // What a block answers, and the decoder and the summary after it.
 #[repr(C)]
-#[derive(Drop)]
+#[derive(Clone, Copy)]
 pub struct SummaryReplyQ15 {
     pub answer: Code,
     pub decoder: DecoderQ15,

@@ -1,1 +1,2 @@
 // Lists of calls: definitions (specs/) and laws (proofs/). No code.
+#![tactic(auto)]

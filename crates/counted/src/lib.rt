@@ -1,4 +1,6 @@
 // What a fast f32 call answers: an answer that carries how many of its corrections took the wide way.
+#![tactic(auto)]
+
 ghost use Rattle.std.specs.Prelude.{◌≡◌};
 ghost use Rattle.answers.specs.Answer.{says};
 ghost use Rattle.counted.specs.Counted.{said_in, count_in, number_in};
@@ -6,7 +8,7 @@ ghost use Rattle.counted.specs.Counted.{said_in, count_in, number_in};
 use answers::answer::Answer;
 
 // Carried out, with that number; or turned back, with none.
-#[derive(Drop)]
+#[derive(Clone, Copy)]
 pub enum Counted {
     Accepted(usize),
     Refused(Answer),

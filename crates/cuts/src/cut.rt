@@ -12,7 +12,7 @@ pub const SIGN: u64 = 9223372036854775808;
 pub const LEADING: u64 = 4503599627370496;
 
 // How a number that was cut is rounded.
-#[derive(Drop)]
+#[derive(Clone, Copy)]
 pub enum Rule {
     Downward,
     HalfEven,

@@ -10,14 +10,14 @@ use decoder_parts::advance::phase_after;
 use decoder_record::pll_f32::StereoPllF32;
 
 // A decoder after a sample, and the sample's difference output.
-#[derive(Drop)]
+#[derive(Clone, Copy)]
 pub struct StepF32 {
     pub next: StereoPllF32,
     pub difference: f32,
 }
 
 // A decoder after a block, and the block's answer.
-#[derive(Drop)]
+#[derive(Clone, Copy)]
 pub struct ReplyF32 {
     pub answer: Answer,
     pub decoder: StereoPllF32,

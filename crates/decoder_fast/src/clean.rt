@@ -17,14 +17,14 @@ use lookup::lookup::{cos_f32, interp_f32_pair, sine_at_twice};
 use phase::correction::{Quick, correction_plain, correction_quick};
 
 // A correction, and how many took the wide way, this one among them.
-#[derive(Drop)]
+#[derive(Clone, Copy)]
 struct Tally {
     step: u32,
     wide: usize,
 }
 
 // A decoder after a sample, the sample's difference output, and how many corrections took the wide way.
-#[derive(Drop)]
+#[derive(Clone, Copy)]
 struct CleanStep {
     next: StereoPllF32,
     difference: f32,

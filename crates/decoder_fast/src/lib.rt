@@ -1,6 +1,8 @@
 // The fast f32 block (fallback/stereo.rs): one scan of the pilot decides whether the test of each
 // sample may be dropped, the cosine and the sine come from one index, and the correction is the
 // fast one, of which those are counted that take the wide way.
+#![tactic(auto)]
+
 pub mod checked;
 mod clean;
 
@@ -21,7 +23,7 @@ use decoder_record::pll_f32::StereoPllF32;
 use pilot_scan::scan;
 
 // A decoder after a sample, the sample's difference output, and whether its correction took the wide way.
-#[derive(Drop)]
+#[derive(Clone, Copy)]
 pub struct FastStep {
     pub next: StereoPllF32,
     pub difference: f32,
@@ -29,14 +31,14 @@ pub struct FastStep {
 }
 
 // A decoder after a block's samples, and how many of their corrections took the wide way.
-#[derive(Drop)]
+#[derive(Clone, Copy)]
 pub(crate) struct FastRun {
     pub(crate) decoder: StereoPllF32,
     pub(crate) wide: usize,
 }
 
 // A decoder after a block, and the block's answer.
-#[derive(Drop)]
+#[derive(Clone, Copy)]
 pub struct FastReply {
     pub answer: Counted,
     pub decoder: StereoPllF32,

@@ -1,4 +1,6 @@
 // Construction of a decoder, what both formats share: the gains in f64 and the causes 1 to 6.
+#![tactic(auto)]
+
 ghost use Rattle.std.specs.Prelude.{◌≡◌};
 ghost use Rattle.decoder_gains.specs.Gains.{gains_of, narrows, all_narrow, common_of, gains, says_common};
 
@@ -14,7 +16,7 @@ pub const ROOT2: f64 = 1.4142135623730951;
 // The integrator stays within this many Hz of the pilot's nominal frequency.
 pub const IMAX_HZ: f64 = 50.0;
 
-#[derive(Drop)]
+#[derive(Clone, Copy)]
 pub struct LoopGains {
     pub kp: f64,
     pub ki: f64,
@@ -26,7 +28,7 @@ pub struct LoopGains {
 }
 
 // The gains, or the number of the refusal.
-#[derive(Drop)]
+#[derive(Clone, Copy)]
 pub enum Checked {
     Good(LoopGains),
     Refused(u32),

@@ -18,14 +18,14 @@ use decoder_record_q15::pll_q15::StereoPllQ15;
 use numbers::fixed::{low32, round_shift};
 
 // A decoder after a sample, and the sample's difference output.
-#[derive(Drop)]
+#[derive(Clone, Copy)]
 pub struct StepQ15 {
     pub next: StereoPllQ15,
     pub difference: i16,
 }
 
 // A decoder after a block, and the block's answer.
-#[derive(Drop)]
+#[derive(Clone, Copy)]
 pub struct ReplyQ15 {
     pub answer: Answer,
     pub decoder: StereoPllQ15,

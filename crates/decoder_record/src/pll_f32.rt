@@ -11,7 +11,7 @@ use finite::finite::f32_to_f64;
 use floats::bits::f64_to_f32;
 
 // The loop's gains, its step and phase, the integrator, the lock level and the two switches.
-#[derive(Drop)]
+#[derive(Clone, Copy)]
 pub struct StereoPllF32 {
     pub kp: f32,
     pub ki: f32,
@@ -28,7 +28,7 @@ pub struct StereoPllF32 {
 }
 
 // A fresh decoder, or the number of the refusal.
-#[derive(Drop)]
+#[derive(Clone, Copy)]
 pub enum NewF32 {
     Made(StereoPllF32),
     Refused(u32),

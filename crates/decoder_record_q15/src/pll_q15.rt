@@ -13,7 +13,7 @@ use scale::scale::floor_scaled;
 
 // The same fields as in f32: kp and ki in 2^-34, the integrator and its limit in 2^-64 turns a
 // sample, beta in 2^-31, the level and its two thresholds in 2^-61.
-#[derive(Drop)]
+#[derive(Clone, Copy)]
 pub struct StereoPllQ15 {
     pub kp: i64,
     pub ki: i64,
@@ -30,7 +30,7 @@ pub struct StereoPllQ15 {
 }
 
 // A fresh decoder, or the number of the refusal.
-#[derive(Drop)]
+#[derive(Clone, Copy)]
 pub enum NewQ15 {
     Made(StereoPllQ15),
     Refused(u32),

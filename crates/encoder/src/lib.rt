@@ -1,2 +1,4 @@
 // The multiplex encoder's block.
+#![tactic(auto)]
+
 pub mod stereo;

@@ -13,7 +13,7 @@ use encoder_record::encode::StereoEncode;
 use lookup::lookup::{cos_f32, sine_at, sine_at_twice};
 
 // What a block answers, and the encoder after it.
-#[derive(Drop)]
+#[derive(Clone, Copy)]
 pub struct EncodeReply {
     pub answer: Answer,
     pub encoder: StereoEncode,

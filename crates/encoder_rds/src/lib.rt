@@ -1,2 +1,4 @@
 // The block of the encoder with RDS.
+#![tactic(auto)]
+
 pub mod rds;

@@ -13,7 +13,7 @@ use encoder_record_rds::rds::StereoEncodeRds;
 use lookup::lookup::{cos_f32, sine_at_thrice};
 
 // What a block answers, and the encoder after it.
-#[derive(Drop)]
+#[derive(Clone, Copy)]
 pub struct EncodeRdsReply {
     pub answer: Answer,
     pub encoder: StereoEncodeRds,

@@ -7,7 +7,7 @@ use oscillator::nco::{Nco, increment_of};
 
 // The pilot's oscillator, the gain of the sum and difference signals, and the pilot's amplitude.
 #[repr(C)]
-#[derive(Drop)]
+#[derive(Clone, Copy)]
 pub struct StereoEncode {
     pub nco: Nco,
     pub main: f32,
@@ -15,14 +15,14 @@ pub struct StereoEncode {
 }
 
 // A new encoder, or the number of the refusal.
-#[derive(Drop)]
+#[derive(Clone, Copy)]
 pub enum NewEncode {
     Made(StereoEncode),
     Refused(u32),
 }
 
 // The changed encoder, or the number of the refusal and the encoder as it was.
-#[derive(Drop)]
+#[derive(Clone, Copy)]
 pub enum SetEncode {
     Done(StereoEncode),
     Refused(u32, StereoEncode),

@@ -6,21 +6,21 @@ use encoder_record::encode::{NewEncode, SetEncode, StereoEncode, good_level};
 
 // The stereo part, and the level of RDS.
 #[repr(C)]
-#[derive(Drop)]
+#[derive(Clone, Copy)]
 pub struct StereoEncodeRds {
     pub enc: StereoEncode,
     pub rds: f32,
 }
 
 // A new encoder, or the number of the refusal.
-#[derive(Drop)]
+#[derive(Clone, Copy)]
 pub enum NewEncodeRds {
     Made(StereoEncodeRds),
     Refused(u32),
 }
 
 // The changed encoder, or the number of the refusal and the encoder as it was.
-#[derive(Drop)]
+#[derive(Clone, Copy)]
 pub enum SetEncodeRds {
     Done(StereoEncodeRds),
     Refused(u32, StereoEncodeRds),

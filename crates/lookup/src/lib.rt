@@ -1,2 +1,4 @@
 // The cosine lookup. A phase is a u32, one turn being 2^32.
+#![tactic(auto)]
+
 pub mod lookup;

@@ -8,7 +8,7 @@ pub const QUARTER: u32 = 1073741824;
 
 // The cosine and the sine of a phase.
 #[repr(C)]
-#[derive(Drop)]
+#[derive(Clone, Copy)]
 pub struct Pair {
     pub c: f32,
     pub s: f32,

@@ -1,2 +1,4 @@
 // Left and right from one call: the fast block, and the matrix of its outputs.
+#![tactic(auto)]
+
 pub mod in_f32;

@@ -1,2 +1,4 @@
 // The oscillator: a phase and its increment a sample. A phase is a u32, one turn being 2^32.
+#![tactic(auto)]
+
 pub mod nco;

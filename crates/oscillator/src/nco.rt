@@ -15,28 +15,28 @@ ghost use Rattle.oscillator.specs.Oscillator.{
 
 // The phase before the next sample, and what each sample adds to it.
 #[repr(C)]
-#[derive(Drop)]
+#[derive(Clone, Copy)]
 pub struct Nco {
     pub phase: u32,
     pub inc: u32,
 }
 
 // An increment, or the number of the refusal.
-#[derive(Drop)]
+#[derive(Clone, Copy)]
 pub enum Increment {
     Made(u32),
     Refused(u32),
 }
 
 // A new oscillator, or the number of the refusal.
-#[derive(Drop)]
+#[derive(Clone, Copy)]
 pub enum NewNco {
     Made(Nco),
     Refused(u32),
 }
 
 // The changed oscillator, or the number of the refusal and the oscillator as it was.
-#[derive(Drop)]
+#[derive(Clone, Copy)]
 pub enum SetNco {
     Done(Nco),
     Refused(u32, Nco),

@@ -7,7 +7,7 @@ ghost use Rattle.phase.specs.Correction.{correction_of, quick_serves, quick_of, 
 const MAGIC: f64 = 6755399441055744.0;
 
 // What the quick way gives: the correction, or that it does not serve.
-#[derive(Drop)]
+#[derive(Clone, Copy)]
 pub enum Quick {
     Step(u32),
     Wide,
@@ -15,7 +15,7 @@ pub enum Quick {
 
 // What the fast way gives: the correction, and whether the quick way served.
 #[repr(C)]
-#[derive(Drop)]
+#[derive(Clone, Copy)]
 pub struct Corrected {
     pub step: u32,
     pub quick: bool,

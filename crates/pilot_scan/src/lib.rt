@@ -1,12 +1,14 @@
 // The scan of the pilot, from the last sample to the first: whether every sample is finite, whatever
 // its sign, and how many were read.
+#![tactic(auto)]
+
 ghost use Rattle.std.specs.Prelude.{◌≤◌, ◌≡◌, true, length, drop};
 ghost use Rattle.std.specs.Float.Ieee.Scale.{finite};
 ghost use Rattle.decoder_parts.specs.Rules.{all_finite};
 ghost use Rattle.pilot_scan.specs.Scan.{scan_of};
 
 // What a scan tells: whether all samples are finite, and how many it read.
-#[derive(Drop)]
+#[derive(Clone, Copy)]
 pub struct Scanned {
     pub finite: bool,
     pub read: usize,

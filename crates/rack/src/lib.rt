@@ -1,4 +1,6 @@
 // A rack of two to eight f32 decoders: a round works each of them on its share of the allowance.
+#![tactic(auto)]
+
 ghost use Rattle.std.specs.Prelude.{◌≡◌, map, ◌≤◌, replicate};
 ghost use Rattle.answers.specs.Answer.{says};
 ghost use Rattle.decoder_record.specs.Records.{pll_of_f32};
@@ -16,7 +18,7 @@ use rack_waiting::{Waiting, least, parts, round_answer, taken};
 
 // What a round answers, how many samples each decoder took, how many of its corrections took the wide
 // way, and the decoders after it.
-#[derive(Drop)]
+#[derive(Clone, Copy)]
 pub struct RoundF32 {
     pub answer: Answer,
     pub taken: [usize; 8],
@@ -25,7 +27,7 @@ pub struct RoundF32 {
 }
 
 // The decoders after their turns, and how many corrections of each took the wide way.
-#[derive(Drop)]
+#[derive(Clone, Copy)]
 struct WorkF32 {
     decoders: [StereoPllF32; 8],
     wide: [usize; 8],

@@ -1,4 +1,6 @@
 // A rack of two to eight Q15 decoders: a round works each of them on its share of the allowance.
+#![tactic(auto)]
+
 ghost use Rattle.std.specs.Prelude.{◌≡◌, map, ◌≤◌};
 ghost use Rattle.answers.specs.Answer.{says};
 ghost use Rattle.decoder_record_q15.specs.Records.{pll_of_q15};
@@ -14,7 +16,7 @@ use decoder_record_q15::pll_q15::StereoPllQ15;
 use rack_waiting::{Waiting, least, parts, round_answer, taken};
 
 // What a round answers, how many samples each decoder took, and the decoders after it.
-#[derive(Drop)]
+#[derive(Clone, Copy)]
 pub struct RoundQ15 {
     pub answer: Answer,
     pub taken: [usize; 8],

@@ -1,5 +1,7 @@
 // A rack of two to eight f32 decoders that have slices of their own, for a program whose receivers have
 // buffers of their own.
+#![tactic(auto)]
+
 ghost use Rattle.std.specs.Prelude.{◌≡◌, map, ◌≤◌, min, length, replicate};
 ghost use Rattle.answers.specs.Answer.{says};
 ghost use Rattle.decoder_record.specs.Records.{pll_of_f32};
@@ -62,14 +64,14 @@ fn lengths(
 }
 
 // A decoder after its turn, and how many of its corrections took the wide way.
-#[derive(Drop)]
+#[derive(Clone, Copy)]
 struct TurnF32 {
     decoder: StereoPllF32,
     wide: usize,
 }
 
 // The decoders after their turns, and how many corrections of each took the wide way.
-#[derive(Drop)]
+#[derive(Clone, Copy)]
 struct WorkF32 {
     decoders: [StereoPllF32; 8],
     wide: [usize; 8],

@@ -1,5 +1,7 @@
 // A rack of two to eight Q15 decoders that have slices of their own, for a program whose receivers have
 // buffers of their own.
+#![tactic(auto)]
+
 ghost use Rattle.std.specs.Prelude.{◌≡◌, map, ◌≤◌, min, length};
 ghost use Rattle.answers.specs.Answer.{says};
 ghost use Rattle.decoder_record_q15.specs.Records.{pll_of_q15};

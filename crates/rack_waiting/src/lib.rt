@@ -1,5 +1,7 @@
 // What waits for the decoders of a rack, by its lengths, the same in both formats: the parts of the flat
 // slices, the answer of a round, and how many samples each decoder takes.
+#![tactic(auto)]
+
 ghost use Rattle.std.specs.Prelude.{◌≡◌, map, ◌-◌, ◌≤◌, min};
 ghost use Rattle.answers.specs.Answer.{says, first_cause};
 ghost use Rattle.rack_waiting.specs.Beside.{beside};
@@ -13,7 +15,7 @@ pub const PLACES: usize = 8;
 
 // How long a decoder's part of each of the four flat slices is.
 #[repr(C)]
-#[derive(Drop)]
+#[derive(Clone, Copy)]
 pub struct Waiting {
     pub mpx: usize,
     pub pilot: usize,

@@ -14,7 +14,7 @@ pub const BITS: usize = 104;
 
 // The four words of a group.
 #[repr(C)]
-#[derive(Drop)]
+#[derive(Clone, Copy)]
 pub struct RdsWords {
     pub one: u16,
     pub two: u16,
@@ -23,13 +23,13 @@ pub struct RdsWords {
 }
 
 // The former's record: the output bit before the next group's first.
-#[derive(Drop)]
+#[derive(Clone, Copy)]
 pub struct RdsFormer {
     pub carried: bool,
 }
 
 // Formed, or turned back.
-#[derive(Drop)]
+#[derive(Clone, Copy)]
 pub enum GroupAnswer {
     Accepted,
     // the output's length
@@ -39,7 +39,7 @@ pub enum GroupAnswer {
 }
 
 // What a group's call answers, and the former after it.
-#[derive(Drop)]
+#[derive(Clone, Copy)]
 pub struct GroupReply {
     pub answer: GroupAnswer,
     pub former: RdsFormer,

@@ -6,7 +6,7 @@ use crate::division::remainder;
 
 // The offset words, which tell a group's blocks apart. `CPrime` is for block three of a group that
 // sends word one again there.
-#[derive(Drop)]
+#[derive(Clone, Copy)]
 pub enum Offset {
     A,
     B,

@@ -209,8 +209,8 @@ near (fin s m e) h =
     let r = half_of (part false s (m * up e)) (part true s (m * up e)) (down e) (down_pos e) (l false) (l true) in
     record {
       far = λ q. cond q r.0 r.1;
-      five = λ q. elim q [ true ↦ omega arith | false ↦ omega arith ];
-      at = λ q. elim q [ true ↦ r.3 | false ↦ r.4 ];
+      five = λ q. elim q as (λ q. cond q r.0 r.1 + cond (not q) r.0 r.1 ≡ 5) [ true ↦ r.2 | false ↦ omega (arith, r.2) ];
+      at = λ q. elim q as (λ q. part q s (m * up e) * 2 + cond q r.0 r.1 * down e ≤ 3 * down e + part (not q) s (m * up e) * 2) [ true ↦ r.3 | false ↦ r.4 ];
     }
 
 -- so b - a and its part are at most far / 2, and far falls away in the sum

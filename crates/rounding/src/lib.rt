@@ -1,1 +1,2 @@
 // Definitions (specs/) and laws (proofs/) alone: what the numbers and the layers above cite.
+#![tactic(auto)]

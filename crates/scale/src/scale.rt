@@ -18,7 +18,7 @@ pub fn q15_from_f64(x: f64) -> i16
 }
 
 // A Q14 coefficient, or that the value lies outside them: document 01's refusal 18.
-#[derive(Drop)]
+#[derive(Clone, Copy)]
 pub enum Q14 {
     Value(i16),
     Outside,

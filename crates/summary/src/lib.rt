@@ -1,4 +1,6 @@
 // A summary beside the pairs in f32: the fast block's samples, each with its part of the summary.
+#![tactic(auto)]
+
 ghost use Rattle.std.specs.Prelude.{◌≡◌, true, length};
 ghost use Rattle.phase.specs.Correction.{is_wide};
 ghost use Rattle.answers.specs.Answer.{entries};
@@ -21,7 +23,7 @@ use summary_counts::{counted, is_full, summary_answer};
 use summary_record::in_f32::{SummaryF32, is_fit, larger};
 
 // A decoder and a summary after a block, and the answer.
-#[derive(Drop)]
+#[derive(Clone, Copy)]
 pub struct SummarizedF32 {
     pub answer: Counted,
     pub decoder: StereoPllF32,

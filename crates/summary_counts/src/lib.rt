@@ -1,4 +1,6 @@
 // The counts of a summary, the same in both formats.
+#![tactic(auto)]
+
 ghost use Rattle.std.specs.Prelude.{◌≡◌, true};
 ghost use Rattle.answers.specs.Answer.{says};
 ghost use Rattle.summary_counts.specs.Counts.{
@@ -17,7 +19,7 @@ ghost use Rattle.summary_counts.specs.Counts.{
 use answers::answer::{Answer, then_output};
 
 // The samples of a period, what is held of an unfinished one, and the decision of the sample before.
-#[derive(Drop)]
+#[derive(Clone, Copy)]
 pub struct Counts {
     pub period: u32,
     pub stereo: u32,

@@ -1,4 +1,6 @@
 // A summary beside the pairs in Q15: the fast block's samples, each with its part of the summary.
+#![tactic(auto)]
+
 ghost use Rattle.std.specs.Prelude.{◌≡◌, true, length};
 ghost use Rattle.answers.specs.Answer.{says, entries};
 ghost use Rattle.decoder_q15.specs.Q15.{q15};
@@ -17,7 +19,7 @@ use summary_counts::{counted, is_full, summary_answer};
 use summary_record::in_q15::{SummaryQ15, is_fit, larger};
 
 // A decoder and a summary after a block, and the answer.
-#[derive(Drop)]
+#[derive(Clone, Copy)]
 pub struct SummarizedQ15 {
     pub answer: Answer,
     pub decoder: StereoPllQ15,

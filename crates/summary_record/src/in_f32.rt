@@ -7,7 +7,7 @@ ghost use Rattle.summary_record.specs.F32.{unsigned_f32, summary_of_f32};
 use summary_counts::Counts;
 
 // A summary's record.
-#[derive(Drop)]
+#[derive(Clone, Copy)]
 pub struct SummaryF32 {
     pub counts: Counts,
     pub magnitude: f32,

@@ -7,7 +7,7 @@ ghost use Rattle.summary_record.specs.Q15.{unsigned_q15, larger_q15, summary_of_
 use summary_counts::Counts;
 
 // A summary's record. No difference is -32768, so that a magnitude is a sample.
-#[derive(Drop)]
+#[derive(Clone, Copy)]
 pub struct SummaryQ15 {
     pub counts: Counts,
     pub magnitude: i16,

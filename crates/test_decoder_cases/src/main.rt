@@ -1,6 +1,8 @@
 // Runs document 01's other cases of the decoder, and one case for each refusal, plain and fast, and
 // those of the merged block (left_right.rt). What each has to write stands in the file stdout; it was
 // worked out from the document.
+#![tactic(auto)]
+
 ghost use Rattle.std.specs.Prelude.{◌≡◌, ◌≤◌, length};
 
 use crate::show::{done, label, number, refused, said, sample, signed};

@@ -6,7 +6,7 @@ use decoder_record::pll_f32::StereoPllF32;
 use decoder_record_q15::pll_q15::StereoPllQ15;
 use test_tally::tally::Tally;
 
-#[derive(Drop)]
+#[derive(Clone, Copy)]
 pub struct Desk {
     pub tally: Tally,
     pub float: PairF32,

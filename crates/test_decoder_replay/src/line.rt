@@ -2,7 +2,7 @@
 // hexadecimal digits, with a space before each word and a new line after the last.
 use test_lines::line::{is_formed, value};
 
-#[derive(Drop)]
+#[derive(Clone, Copy)]
 pub struct Words {
     // the arguments, then the answers
     pub w: [u64; 17],

@@ -1,6 +1,8 @@
 // Replays the list of the original's answers, data/decoder.txt, through the decoder, plain and
 // fast, merged blocks among its calls, and writes how many lines of each call agree.
 // oracle/README.md says what a line holds and how the list was made.
+#![tactic(auto)]
+
 use libc::STDOUT_FILENO;
 
 mod desk;

@@ -11,14 +11,14 @@ use decoder_record::pll_f32::{NewF32, StereoPllF32};
 use test_words::words::{f32_of, f64_of, u32_of, word_f32, word_u32};
 
 // What a call answers, and the decoder after it.
-#[derive(Drop)]
+#[derive(Clone, Copy)]
 pub struct TurnF32 {
     pub words: [u64; 12],
     pub next: StereoPllF32,
 }
 
 // A plain and a fast decoder, and whether both answered the last line.
-#[derive(Drop)]
+#[derive(Clone, Copy)]
 pub struct PairF32 {
     pub plain: StereoPllF32,
     pub fast: StereoPllF32,

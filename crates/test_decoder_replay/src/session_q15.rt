@@ -9,14 +9,14 @@ use decoder_record_q15::pll_q15::{NewQ15, StereoPllQ15};
 use test_words::words::{f64_of, i16_of, i64_of, u32_of, word_i64, word_u32};
 
 // What a call answers, and the decoder after it.
-#[derive(Drop)]
+#[derive(Clone, Copy)]
 pub struct TurnQ15 {
     pub words: [u64; 12],
     pub next: StereoPllQ15,
 }
 
 // A plain and a fast decoder, and whether both answered the last line.
-#[derive(Drop)]
+#[derive(Clone, Copy)]
 pub struct PairQ15 {
     pub plain: StereoPllQ15,
     pub fast: StereoPllQ15,

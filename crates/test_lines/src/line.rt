@@ -2,7 +2,7 @@
 ghost use Rattle.std.specs.Prelude.{◌≡◌};
 ghost use Rattle.test_lines.specs.Columns.{digit_of, word_at, value_in, is_word, has_at, formed_of, starts_with, find_of};
 
-#[derive(Drop)]
+#[derive(Clone, Copy)]
 enum Hex {
     Value(u64),
     Malformed,

@@ -3,7 +3,7 @@
 use crate::names::{COUNT, NAMES};
 use test_lines::line::{find, is_formed, value};
 
-#[derive(Drop)]
+#[derive(Clone, Copy)]
 pub struct Case {
     pub function: usize,
     pub a: u64,
@@ -11,7 +11,7 @@ pub struct Case {
     pub answer: u64,
 }
 
-#[derive(Drop)]
+#[derive(Clone, Copy)]
 pub enum Read {
     Case(Case),
     Malformed,

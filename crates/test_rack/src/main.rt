@@ -1,6 +1,7 @@
 // Runs rounds of racks: each refusal, the order of the causes, parts, shares, rounds one after the other,
 // and the counts of wide corrections. What each has to write stands in the file stdout; it was worked out
 // from document 02, requests 6 and 7, and not from what this program wrote.
+#![tactic(auto)]
 
 mod cases;
 mod round;

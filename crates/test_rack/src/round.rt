@@ -9,7 +9,7 @@ use rack::RoundF32;
 use rack_waiting::least;
 
 // A rack in both formats.
-#[derive(Drop)]
+#[derive(Clone, Copy)]
 pub(crate) struct Both {
     pub(crate) f: [StereoPllF32; 8],
     pub(crate) q: [StereoPllQ15; 8],
@@ -17,7 +17,7 @@ pub(crate) struct Both {
 
 // A round: the number, the allowance, the table's length, where the four flat slices begin, and how long they
 // are; all are cut off at what there is.
-#[derive(Drop)]
+#[derive(Clone, Copy)]
 pub(crate) struct Asked {
     pub(crate) number: usize,
     pub(crate) allowance: u32,

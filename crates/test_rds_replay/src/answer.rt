@@ -2,7 +2,7 @@
 use rds::former::{GroupAnswer, GroupReply, RdsFormer, RdsWords};
 
 // The five answers of a line.
-#[derive(Drop)]
+#[derive(Clone, Copy)]
 pub struct Answers {
     // the answer's number
     pub code: u64,
@@ -15,7 +15,7 @@ pub struct Answers {
     pub left: u64,
 }
 
-#[derive(Drop)]
+#[derive(Clone, Copy)]
 pub struct Called {
     pub answers: Answers,
     pub former: RdsFormer,

@@ -6,7 +6,7 @@ use rds::former::RdsFormer;
 use test_tally::tally;
 use test_tally::tally::Tally;
 
-#[derive(Drop)]
+#[derive(Clone, Copy)]
 pub struct Desk {
     pub tally: Tally,
     pub former: RdsFormer,

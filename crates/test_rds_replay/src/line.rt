@@ -4,7 +4,7 @@ use crate::answer::Answers;
 use crate::names::{COUNT, NAMES};
 use test_lines::line::{find, is_formed, value};
 
-#[derive(Drop)]
+#[derive(Clone, Copy)]
 pub struct Case {
     pub function: usize,
     pub words: u64,
@@ -12,7 +12,7 @@ pub struct Case {
     pub answers: Answers,
 }
 
-#[derive(Drop)]
+#[derive(Clone, Copy)]
 pub enum Read {
     Case(Case),
     Malformed,

@@ -1,6 +1,8 @@
 // Compares the check of every word with the standard's generator matrix, then replays the list of a model's
 // answers, data/rds.txt, through the group former, and writes how many agree.
 // oracle/README.md says what a line holds and how the list was made.
+#![tactic(auto)]
+
 use libc::STDOUT_FILENO;
 
 mod answer;

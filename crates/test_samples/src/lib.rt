@@ -1,6 +1,8 @@
 // Tables and samples from a word, by the rule that oracle/ uses for its lists, which therefore need
 // not hold them: above 32 bits the kind (1 a triangle for a cosine, 2 one value, 3 sizes from 2^-8
 // to 1, else any bits, in f32 one time in eight), below them the seed, or the value.
+#![tactic(auto)]
+
 ghost use Rattle.std.specs.Prelude.{◌≡◌, length};
 ghost use Rattle.answers.specs.Samples.{samples};
 ghost use Rattle.test_samples.specs.Samples.{mixed_of, drawn_of, bounded_of, triangle_of, any_of, sample_f32_of, sample_q15_of};

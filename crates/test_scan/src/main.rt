@@ -1,6 +1,8 @@
 // Scans blocks with one sample that is not finite, at each place, blocks of such samples alone, and finite
 // ones. What is to be written stands in the file stdout; it was worked out from document 02, request 3, by
 // counting places.
+#![tactic(auto)]
+
 use libc::STDOUT_FILENO;
 use test_words::words::f32_of;
 

@@ -1,5 +1,7 @@
 // Runs document 01's other cases of oscillator, matrix and encoders, and one case for each refusal of
 // these calls. What each has to write stands in the file stdout; it was worked out from the document.
+#![tactic(auto)]
+
 mod cases;
 mod lengths;
 mod write;

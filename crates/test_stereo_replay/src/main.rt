@@ -1,6 +1,8 @@
 // Replays the list of the original's answers, data/stereo.txt, through lookup, correction,
 // oscillator, matrix and encoders, and writes how many lines of each function agree.
 // oracle/README.md says what a line holds and how the list was made.
+#![tactic(auto)]
+
 use libc::STDOUT_FILENO;
 
 mod answer;

@@ -9,14 +9,14 @@ use summary_q15::SummarizedQ15;
 use test_words::words::f32_of;
 
 // Decoder and summary of both formats, as the call before left them.
-#[derive(Drop)]
+#[derive(Clone, Copy)]
 pub(crate) struct Both {
     pub(crate) f: SummarizedF32,
     pub(crate) q: SummarizedQ15,
 }
 
 // The lengths of all that is lent beside the table and the first input.
-#[derive(Drop)]
+#[derive(Clone, Copy)]
 pub(crate) struct Lengths {
     pub(crate) pilot: usize,
     pub(crate) sum: usize,

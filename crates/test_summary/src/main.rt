@@ -1,6 +1,8 @@
 // Runs cases of a summary beside the pairs: each refusal, the order of the causes, and what blocks
 // leave. What each has to write stands in the file stdout; it was worked out from document 02,
 // request 4, and not from what this program wrote.
+#![tactic(auto)]
+
 ghost use Rattle.std.specs.Prelude.{◌≡◌, length};
 
 mod blocks;

@@ -6,7 +6,7 @@ ghost use Rattle.test_tally.specs.Tallies.{more as Tallies·more};
 
 use libc::STDOUT_FILENO;
 
-#[derive(Drop)]
+#[derive(Clone, Copy)]
 pub struct Tally {
     // for each function; a list has at most 32
     pub agreed: [u64; 32],

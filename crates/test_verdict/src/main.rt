@@ -1,6 +1,8 @@
 // The verdict at each pair of a frequency and an amplitude, at the ends of both ranges and their
 // neighbours, and beside it whether the encoder takes that frequency. What is to be written stands in the
 // file stdout; it was worked out from document 02, request 5, by exact fractions.
+#![tactic(auto)]
+
 use encoder_record::encode::{NewEncode, StereoEncode};
 use libc::STDOUT_FILENO;
 use test_words::words::{f32_of, f64_of};

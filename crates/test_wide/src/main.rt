@@ -2,6 +2,8 @@
 // blocks with a summary, at f on both sides of both edges, at NaN and infinities, and in refused calls.
 // What is to be written stands in the file stdout; it was worked out from document 02, request 7, by
 // exact fractions.
+#![tactic(auto)]
+
 use answers::answer::code_of;
 use counted::Counted;
 use decoder_record::pll_f32::StereoPllF32;

@@ -1,1 +1,2 @@
 // A decoder's two thresholds: laws (proofs/) that on is not below off, in both formats. No code.
+#![tactic(auto)]

@@ -1,4 +1,6 @@
 // Whether a pilot of this frequency and amplitude may go on air.
+#![tactic(auto)]
+
 ghost use Rattle.std.specs.Prelude.{◌≡◌};
 ghost use Rattle.verdict.specs.Verdict.{on_air_of};
 
