@@ -1,5 +1,4 @@
 -- With h the place of the first digit that falls off, 2^place is 2 * h. Assumes nothing.
-use borrow.Author.Rules.{rules}
 use Prim.Native.Nat.{ℕ, ◌+◌, ◌-◌, ◌*◌, ◌%◌, ◌^◌, ◌≤◌, ◌<◌}
 use mathlib.Core.Path.{◌≡◌, refl, sym, ap, ◌∙◌}
 use mathlib.Core.Bool.{Bool, true, false, cond}
@@ -8,8 +7,7 @@ use native.Mathlib.Nat.{one-mul, mod-eq_of_lt, mul_comm, lt_of_lt_of_le, div-le_
 use lib.Pow.{pow-lt, pow_pos, pow_mono, pow-add}
 use mir.Val.{bool_byte}
 use Rattle.rounding.proofs.Cut.{cut_whole, cut_digits, cut_off}
-use Rattle.cuts.proofs.cut.cut.Statement.{statement}
-use Rattle.cuts.proofs.cut.cut.Tie as tie
+use Rattle.cuts.proofs.cut.cut.Goals as goal
 
 byte : (b : Bool) → bool_byte b ≡ cond b 1 0
 byte true = refl
@@ -33,47 +31,29 @@ twice p n = mul_comm 2 (2 ^ (p - 1)) ∙ sym (pow-add 2 (p - 1) 1) ∙ ap (λ (z
 far : (d p : ℕ) → d < 2 ^ 64 → 64 < p → d * 2 < 2 ^ p
 far d p h l = lt_of_lt_of_le {m = 2 ^ 65} (omega arith) (pow_mono {i = 65} {j = p} (omega arith))
 
-returns : tie.Need-returns
-returns c = rw c.if1.true (sym (cut_whole _ c.before.args.negative c.before.args.d))
+pub returns-then-place-eq0 : goal.returns-then-place-eq0
+returns-then-place-eq0 c = rw c.if-place-eq0.true (sym (cut_whole _ c.args.negative c.args.d))
 
-returns-2 : tie.Need-returns-2
-returns-2 c =
-    let a = c.before.before.before in
+pub returns-then-place-gt64 : goal.returns-then-place-gt64
+returns-then-place-gt64 c =
+    let a = c in
     byte c.carries.result
     ∙ ap (λ (b : Bool). cond b 1 0) c.carries.ensures
-    ∙ cut_off _ a.args.negative a.args.d (2 ^ a.args.place) (far a.args.d a.args.place a.ranges.d.fits c.before.if2.true)
+    ∙ cut_off _ a.args.negative a.args.d (2 ^ a.args.place) (far a.args.d a.args.place a.ranges.d.fits c.if-place-gt64.true)
 
-rem-carries : tie.Need-nonzero-rem-carries
-rem-carries c = let p = c.before.before.args.place in rw (half_is p c.before.if1.false c.if2.false) (pow_pos (p - 1))
+pub nonzero_rem-d : goal.nonzero_rem-d
+nonzero_rem-d c = let p = c.args.place in rw (half_is p c.if-place-eq0.false c.if-place-gt64.false) (pow_pos (p - 1))
 
-add-result : tie.Need-overflow-add-result
-add-result c =
-    let a = c.before.before.before in
-    omega (arith, div-le_self a.args.d (2 ^ (a.args.place - 1)), byte_le c.carries2.result, a.ranges.d.fits)
+pub overflow_add-result : goal.overflow_add-result
+overflow_add-result c =
+    let a = c in
+    omega (arith, div-le_self a.args.d (2 ^ (a.args.place - 1)), byte_le c.carries-2.result, a.ranges.d.fits)
 
-returns-3 : tie.Need-returns-3
-returns-3 c =
-    let a = c.before.before.before in
+pub returns : goal.returns
+returns c =
+    let a = c in
     let d = a.args.d in
     let p = a.args.place in
     let h = 2 ^ (p - 1) in
-    rw (byte c.carries2.result, c.carries2.ensures, half_is p c.before.before.if1.false c.before.if2.false, ← twice p c.before.before.if1.false)
+    rw (byte c.carries-2.result, c.carries-2.ensures, half_is p c.if-place-eq0.false c.if-place-gt64.false, ← twice p c.if-place-eq0.false)
     (cut_digits _ a.args.negative d h (pow_pos (p - 1)))
-
-pub cut_spec : {M : Type 1} → statement M
-cut_spec =
-    tie.close
-    (tie.spec
-    returns
-    (λ c κs. search rules)
-    (λ c. search rules)
-    returns-2
-    (λ c. search rules)
-    (λ c. search rules)
-    (λ c. search rules)
-    (λ c. search rules)
-    rem-carries
-    (λ c κs. search rules)
-    (λ c. search rules)
-    add-result
-    returns-3)
