@@ -1,0 +1,5 @@
+use Rattle.std.proofs.Common.{sym, ◌∙◌, rules}
+use Rattle.decoder_parts.proofs.in_f32.stereo_of.Goals as goal
+
+pub returns-then-is_finite_f32 : goal.returns-then-is_finite_f32
+returns-then-is_finite_f32 c = rw (sym c.is_finite_f32.ensures ∙ c.if-is_finite_f32.true) c.decided.ensures

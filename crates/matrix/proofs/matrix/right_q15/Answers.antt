@@ -1,0 +1,16 @@
+use mathlib.Core.Path.{◌∙◌}
+use mir.Syntax.{w16}
+use mir.Facts.{to_z-of_z}
+use Rattle.rounding.proofs.Lin.{back}
+use Rattle.matrix.specs.Matrix.{right_q15}
+use Rattle.matrix.proofs.Twice.{minus_twice}
+use Rattle.matrix.proofs.matrix.right_q15.Goals as goal
+
+pub returns : goal.returns
+unfolding right_q15
+returns c =
+    let one = c.q15_sub_sat in
+    let b = c.before.before in
+    back w16 c.q15_sub_sat-2.result c.q15_sub_sat-2.type_inv
+    ∙ c.q15_sub_sat-2.ensures
+    ∙ rw (back w16 one.result one.type_inv, one.ensures, to_z-of_z b.ranges.s, to_z-of_z b.ranges.d) (minus_twice b.args.s b.args.d b.ranges.s)

@@ -1,0 +1,23 @@
+use Prim.Native.Nat.{◌≤◌}
+use mathlib.Core.Path.{◌≡◌, refl, sym, ◌∙◌}
+use native.Mathlib.Omega.{arith}
+use Rattle.rds_blocks.specs.Division.{divided_from, remainder_of}
+use Rattle.rds_blocks.proofs.Divide.{taken, passed, finished}
+use Rattle.rds_blocks.proofs.division.remainder.Goals as goal
+
+pub loop-n-init : goal.loop-n-init
+unfolding remainder_of
+loop-n-init c = (omega arith, refl)
+
+pub loop-n-preserved-then-has_place : goal.loop-n-preserved-then-has_place
+loop-n-preserved-then-has_place c =
+    let l = c.before.before.before in
+    (omega arith, taken _ _ (omega arith) l.loop-n.invariant.0 (sym c.has_place.ensures ∙ c.if-has_place.true) ∙ l.loop-n.invariant.1)
+
+pub loop-n-preserved : goal.loop-n-preserved
+loop-n-preserved c =
+    let l = c.before.before.before in
+    (omega arith, passed _ _ (omega arith) (sym c.has_place.ensures ∙ c.if-has_place.false) ∙ l.loop-n.invariant.1)
+
+pub returns : goal.returns
+returns c = let l = c.before in sym (finished l.loop-n.n l.loop-n.x (omega arith)) ∙ l.loop-n.invariant.1
