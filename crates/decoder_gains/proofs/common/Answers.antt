@@ -1,11 +1,10 @@
--- `goodN` is the test of cause N passed, as the definition has it, and `badN` the test failed. Assumes nothing.
+-- `goodN` is the test of cause N passed_plain, as the definition has it, and `badN` the test failed_plain. Assumes nothing.
 use mathlib.Core.Path.{◌≡◌, refl, ap, ◌∙◌}
 use mathlib.Core.Bool.{Bool, true, false, ◌&&◌}
 use mathlib.Core.List.{[], ◌∷◌}
-use borrow.Author.Tests.{not-true, not-false}
 use lib.Ieee.{Float, binary64, of_bits, round, div, lt, le}
 use Rattle.answers.specs.Answer.{rule, first_cause, built_by}
-use Rattle.answers.proofs.Tests.{failed, passed}
+use Rattle.answers.proofs.Tests.{failed_plain, passed_plain}
 use Rattle.floats.specs.Floats.{nearest, positive, in_range}
 use Rattle.decoder_gains.specs.Gains.{nought, one, all_narrow, gains_of, common_of}
 use Rattle.decoder_gains.proofs.common.Goals.{After-are_narrow, After-is_positive_f64-2, After-is_positive_f64-3, After-is_positive_f64-4, Else-not-beta, Else-not-is_positive_f64, Else-not-is_positive_f64-level, Else-not-is_positive_f64-natural, Else-not-is_positive_f64-pilot, Start}
@@ -25,7 +24,7 @@ both : {x y b : Bool} (z : Bool) → x ≡ y → x && z ≡ b → y && z ≡ b
 both z e h = rw (← e) h
 
 good1 : (c : Else-not-is_positive_f64) → positive c.args.rate ≡ true
-good1 c = passed c.is_positive_f64.ensures c.if-not-is_positive_f64.false
+good1 c = passed_plain c.is_positive_f64.ensures c.if-not-is_positive_f64.false
 
 abbrev s2 : After-is_positive_f64-2 → Start
 s2 c = c.before.before.before
@@ -38,39 +37,39 @@ s4 c = s3 c.before.before
 
 good2 : (c : Else-not-is_positive_f64-pilot) → let a = (s2 c.before).args in positive a.pilot && lt a.pilot (div binary64 a.rate (nearest binary64 4 1)) ≡ true
 unfolding of_bits round
-good2 c = both _ c.is_positive_f64-2.ensures (not-false _ c.if-not-is_positive_f64-pilot.false)
+good2 c = both _ c.is_positive_f64-2.ensures c.if-not-is_positive_f64-pilot.false
 
 good3 : (c : Else-not-is_positive_f64-natural) → let a = (s3 c.before).args in positive a.natural && le a.natural (div binary64 a.pilot (nearest binary64 100 1)) ≡ true
 unfolding of_bits round
-good3 c = both _ c.is_positive_f64-3.ensures (not-false _ c.if-not-is_positive_f64-natural.false)
+good3 c = both _ c.is_positive_f64-3.ensures c.if-not-is_positive_f64-natural.false
 
 good4 : (c : Else-not-is_positive_f64-level) → let a = (s4 c.before).args in positive a.level && le a.level one ≡ true
 unfolding of_bits
-good4 c = both _ c.is_positive_f64-4.ensures (not-false _ c.if-not-is_positive_f64-level.false)
+good4 c = both _ c.is_positive_f64-4.ensures c.if-not-is_positive_f64-level.false
 
 good5 : (c : Else-not-beta) → in_range nought one (s4 c.before.before).args.beta ≡ true
 unfolding of_bits
-good5 c = not-false _ c.if-not-beta.false
+good5 c = c.if-not-beta.false
 
 pub returns-then-not-is_positive_f64 : goal.returns-then-not-is_positive_f64
-returns-then-not-is_positive_f64 c = says _ _ _ _ _ (failed c.is_positive_f64.ensures c.if-not-is_positive_f64.true) refl refl refl refl refl
+returns-then-not-is_positive_f64 c = says _ _ _ _ _ (failed_plain c.is_positive_f64.ensures c.if-not-is_positive_f64.true) refl refl refl refl refl
 
 pub returns-then-not-is_positive_f64-pilot : goal.returns-then-not-is_positive_f64-pilot
 unfolding of_bits round
-returns-then-not-is_positive_f64-pilot c = says _ _ _ _ _ (good1 c.before.before) (both _ c.is_positive_f64-2.ensures (not-true _ c.if-not-is_positive_f64-pilot.true)) refl refl refl refl
+returns-then-not-is_positive_f64-pilot c = says _ _ _ _ _ (good1 c.before.before) (both _ c.is_positive_f64-2.ensures c.if-not-is_positive_f64-pilot.true) refl refl refl refl
 
 pub returns-then-not-is_positive_f64-natural : goal.returns-then-not-is_positive_f64-natural
 unfolding of_bits round
 returns-then-not-is_positive_f64-natural c =
     let e = c.before.before in
-    says _ _ _ _ _ (good1 e.before.before) (good2 e) (both _ c.is_positive_f64-3.ensures (not-true _ c.if-not-is_positive_f64-natural.true)) refl refl refl
+    says _ _ _ _ _ (good1 e.before.before) (good2 e) (both _ c.is_positive_f64-3.ensures c.if-not-is_positive_f64-natural.true) refl refl refl
 
 pub returns-then-not-is_positive_f64-level : goal.returns-then-not-is_positive_f64-level
 unfolding of_bits
 returns-then-not-is_positive_f64-level c =
     let e = c.before.before in
     let f = e.before.before in
-    says _ _ _ _ _ (good1 f.before.before) (good2 f) (good3 e) (both _ c.is_positive_f64-4.ensures (not-true _ c.if-not-is_positive_f64-level.true)) refl refl
+    says _ _ _ _ _ (good1 f.before.before) (good2 f) (good3 e) (both _ c.is_positive_f64-4.ensures c.if-not-is_positive_f64-level.true) refl refl
 
 pub returns-then-not-beta : goal.returns-then-not-beta
 unfolding of_bits
@@ -78,7 +77,7 @@ returns-then-not-beta c =
     let d = c.before in
     let e = d.before.before in
     let f = e.before.before in
-    says _ _ _ _ _ (good1 f.before.before) (good2 f) (good3 e) (good4 d) (not-true _ c.if-not-beta.true) refl
+    says _ _ _ _ _ (good1 f.before.before) (good2 f) (good3 e) (good4 d) c.if-not-beta.true refl
 
 -- the answer of the last test, of the gains that the formulas give
 narrow : (c : After-are_narrow) → let a = (s4 c.before.before.before.before).args in
@@ -92,7 +91,7 @@ returns-then-not-are_narrow c =
     let d = b.before in
     let e = d.before.before in
     let f = e.before.before in
-    says _ _ _ _ _ (good1 f.before.before) (good2 f) (good3 e) (good4 d) (good5 b) (failed (narrow n) c.if-not-are_narrow.true)
+    says _ _ _ _ _ (good1 f.before.before) (good2 f) (good3 e) (good4 d) (good5 b) (failed_plain (narrow n) c.if-not-are_narrow.true)
 
 pub returns : goal.returns
 returns c =
@@ -102,4 +101,4 @@ returns c =
     let e = d.before.before in
     let f = e.before.before in
     rw n.gains_of-g.ensures
-    (says _ _ _ _ _ (good1 f.before.before) (good2 f) (good3 e) (good4 d) (good5 b) (passed (narrow n) c.if-not-are_narrow.false))
+    (says _ _ _ _ _ (good1 f.before.before) (good2 f) (good3 e) (good4 d) (good5 b) (passed_plain (narrow n) c.if-not-are_narrow.false))
