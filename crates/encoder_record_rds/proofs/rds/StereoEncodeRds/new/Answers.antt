@@ -1,19 +1,18 @@
 -- The causes of the stereo part, then 16: `stereo` is what the stereo part's construction tells. Assumes nothing.
-use borrow.Author.Rules.{rules}
 use Prim.Native.Nat.{ℕ}
-use mathlib.Core.Path.{◌≡◌, refl, sym, ap, ◌∙◌}
-use mathlib.Core.Bool.{Bool, true}
+use mathlib.Core.Path.{◌≡◌, sym, ap}
+use mathlib.Core.Bool.{Bool}
 use mathlib.Core.List.{[], ◌∷◌}
 use lib.Ieee.{Float}
-use Rattle.answers.specs.Answer.{rule, first_cause, or_else, Built, made, refused, built_by}
+use Rattle.answers.specs.Answer.{rule, first_cause, made, refused, built_by}
 use Rattle.answers.proofs.Causes.{none_yet, or_none, first_append, built_out, refused_stays}
 use Rattle.answers.proofs.Tests.{failed, passed}
 use Rattle.encoder_record.specs.Encode.{good_level, causes, encoder_of, new_of}
 use Rattle.encoder_record_rds.specs.EncodeRds.{new_rds_of}
 use Rattle.encoder_record.specs.declared.encode.StereoEncode.{StereoEncode}
 use Rattle.encoder_record_rds.specs.declared.rds.StereoEncodeRds.{StereoEncodeRds}
-use Rattle.encoder_record_rds.proofs.rds.StereoEncodeRds.new.Statement.{statement}
-use Rattle.encoder_record_rds.proofs.rds.StereoEncodeRds.new.Tie as tie
+use Rattle.std.proofs.Common.{not}
+use Rattle.encoder_record_rds.proofs.rds.StereoEncodeRds.new.Goals as goal
 
 module _ (frequency main pilot rds rate : Float) where
   abbrev with : StereoEncode → StereoEncodeRds
@@ -33,18 +32,13 @@ module _ (frequency main pilot rds rate : Float) where
       rw (first_append (causes frequency main pilot rate) (rule 16 (good_level rds) ∷ []))
       (sym (refused_stays (first_cause (causes frequency main pilot rate)) _ (encoder_of frequency main pilot rate) _ (sym h)))
 
-returns : tie.Need-returns
-returns c =
-    let k = c.before.before.before in
-    after-made _ _ _ _ _ (rw k.enc.given.1 at k.before.before.new.ensures) (failed c.before.good-level.ensures c.if1.true)
+pub returns-then-not-good_level : goal.returns-then-not-good_level
+returns-then-not-good_level c =
+    after-made _ _ _ _ _ (rw c.in-Made.is at c.new.ensures) (failed c.good_level.ensures (ap not c.if-not-good_level.true))
 
-returns-2 : tie.Need-returns-2
-returns-2 c =
-    let k = c.before.before.before in
-    after-made _ _ _ _ _ (rw k.enc.given.1 at k.before.before.new.ensures) (passed c.before.good-level.ensures c.if1.false)
+pub returns-else-not-good_level : goal.returns-else-not-good_level
+returns-else-not-good_level c =
+    after-made _ _ _ _ _ (rw c.in-Made.is at c.new.ensures) (passed c.good_level.ensures (ap not c.if-not-good_level.false))
 
-returns-3 : tie.Need-returns-3
-returns-3 c = after-refused _ _ _ _ _ (rw c.before.n.given.1 at c.before.before.before.new.ensures)
-
-pub new_spec : {M : Type 1} → statement M
-new_spec = tie.close (tie.spec (λ c κs. search rules) (λ c. search rules) (λ c κs. search rules) returns (λ c. search rules) returns-2 returns-3)
+pub returns-in-Refused : goal.returns-in-Refused
+returns-in-Refused c = after-refused _ _ _ _ _ (rw c.in-Refused.is at c.new.ensures)
