@@ -11,7 +11,6 @@ use Rattle.decoder_record_q15.specs.Fit.{within_z, fits64, guard_of, level_low, 
 use Rattle.decoder_record_q15.specs.Records.{pll_of_q15}
 use Rattle.decoder_record_q15.proofs.Ranges.{not_below, minus_fits, minus_held}
 use Rattle.decoder_record_q15.proofs.Held.{Held, held}
-use Rattle.decoder_fit_q15.proofs.fit.is_fit.Goals.{Else-imax-lt0}
 use Rattle.decoder_fit_q15.proofs.fit.is_fit.Goals as goal
 
 -- the definition by the outcomes of its tests
@@ -34,33 +33,25 @@ module _ (d : Pll ℤ) {I : ℤ} (i : I ≡ d.gains.imax) where
   unfolding fit_q15
   by_tests n a b c g h x l = rw (n, ← a, ← b, ← c, ← g, ← h, ← x, ← l) (simp and_assoc)
 
-module _ (c : Else-imax-lt0) where
-  abbrev d : Pll ℤ
-  d = pll_of_q15 c.args.d
-
-  abbrev k : Held c.args.d
-  k = held c.args.d c.struct_told-1.given
-
-  no_less : le_z (pos 0) d.gains.imax ≡ true
-  no_less = positive d (to_z-of_z k.imax) c.if-imax-lt0.false
-
 pub returns-then-imax-lt0 : goal.returns-then-imax-lt0
 returns-then-imax-lt0 c = negative (pll_of_q15 c.args.d) (to_z-of_z (held c.args.d c.struct_told-1.given).imax) c.if-imax-lt0.true
 
 pub overflow_sub-imax : goal.overflow_sub-imax
 overflow_sub-imax c =
-    let e = c.before.before.before.before.before.before.before.before.before.before.before.before in
-    minus_fits (to_z-of_z (k e).imax) (k e).imax (not_below (d e).gains.imax (no_less e))
+    let d = pll_of_q15 c.args.d in
+    let k = held c.args.d c.struct_told-1.given in
+    minus_fits (to_z-of_z k.imax) k.imax (not_below d.gains.imax (positive d (to_z-of_z k.imax) c.if-imax-lt0.false))
 
 pub returns : goal.returns
 returns c =
-    let e = c.before.before.before.before.before.before in
-    let h = k e in
-    by_tests (d e) (to_z-of_z h.imax) (no_less e)
+    let d = pll_of_q15 c.args.d in
+    let h = held c.args.d c.struct_told-1.given in
+    let n = positive d (to_z-of_z h.imax) c.if-imax-lt0.false in
+    by_tests d (to_z-of_z h.imax) n
     (ap (le_z (pos 0)) (to_z-of_z h.kp))
     (ap (le_z (pos 0)) (to_z-of_z h.ki))
     (c.in_range.ensures ∙ rw (to_z-of_z h.beta))
     (c.guard_fits.ensures ∙ ap₂ (λ (k m : ℤ). fits64 (guard_of k m)) (to_z-of_z h.kp) (to_z-of_z h.imax))
     (c.guard_fits-2.ensures ∙ ap₂ (λ (k m : ℤ). fits64 (guard_of k m)) (to_z-of_z h.ki) (to_z-of_z h.imax))
-    (c.in_range-3.ensures ∙ rw (minus_held (to_z-of_z h.imax) h.imax (not_below (d e).gains.imax (no_less e)), to_z-of_z h.imax, to_z-of_z h.integ))
+    (c.in_range-3.ensures ∙ rw (minus_held (to_z-of_z h.imax) h.imax (not_below d.gains.imax n), to_z-of_z h.imax, to_z-of_z h.integ))
     (c.in_range-2.ensures ∙ rw (to_z-of_z h.level))
