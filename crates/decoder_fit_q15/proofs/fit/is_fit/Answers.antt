@@ -1,4 +1,3 @@
-use borrow.Author.Rules.{rules}
 use mathlib.Core.Path.{◌≡◌, refl, ap, ap₂, ◌∙◌}
 use mathlib.Core.Bool.{Bool, true, false, ◌&&◌, and_assoc}
 use native.Mathlib.Omega.{arith}
@@ -12,8 +11,7 @@ use Rattle.decoder_record_q15.specs.Fit.{within_z, fits64, guard_of, level_low, 
 use Rattle.decoder_record_q15.specs.Records.{pll_of_q15}
 use Rattle.decoder_record_q15.proofs.Ranges.{not_below, minus_fits, minus_held}
 use Rattle.decoder_record_q15.proofs.Held.{Held, held}
-use Rattle.decoder_fit_q15.proofs.fit.is_fit.Statement.{statement}
-use Rattle.decoder_fit_q15.proofs.fit.is_fit.Tie as tie
+use Rattle.decoder_fit_q15.proofs.fit.is_fit.Goals as goal
 
 -- the definition by the outcomes of its tests
 module _ (d : Pll ℤ) {I : ℤ} (i : I ≡ d.gains.imax) where
@@ -35,50 +33,25 @@ module _ (d : Pll ℤ) {I : ℤ} (i : I ≡ d.gains.imax) where
   unfolding fit_q15
   by_tests n a b c g h x l = rw (n, ← a, ← b, ← c, ← g, ← h, ← x, ← l) (simp and_assoc)
 
-module _ (c : tie.Else1) where
-  abbrev d : Pll ℤ
-  d = pll_of_q15 c.before.before.args.d
+pub returns-then-imax-lt0 : goal.returns-then-imax-lt0
+returns-then-imax-lt0 c = negative (pll_of_q15 c.args.d) (to_z-of_z (held c.args.d c.struct_told-1.given).imax) c.if-imax-lt0.true
 
-  abbrev k : Held c.before.before.args.d
-  k = held c.before.before.args.d c.before.struct_told.given
+pub overflow_sub-imax : goal.overflow_sub-imax
+overflow_sub-imax c =
+    let d = pll_of_q15 c.args.d in
+    let k = held c.args.d c.struct_told-1.given in
+    minus_fits (to_z-of_z k.imax) k.imax (not_below d.gains.imax (positive d (to_z-of_z k.imax) c.if-imax-lt0.false))
 
-  no_less : le_z (pos 0) d.gains.imax ≡ true
-  no_less = positive d (to_z-of_z k.imax) c.if1.false
-
-returns : tie.Need-returns
-returns c = negative (pll_of_q15 c.before.before.args.d) (to_z-of_z (held c.before.before.args.d c.before.struct_told.given).imax) c.if1.true
-
-sub-in-range : tie.Need-overflow-sub-in-range
-sub-in-range c =
-    let e = c.before.before.before.before.before.before.before.before.before.before.before.before in
-    minus_fits (to_z-of_z (k e).imax) (k e).imax (not_below (d e).gains.imax (no_less e))
-
-returns-2 : tie.Need-returns-2
-returns-2 c =
-    let i2 = c.before.before in
-    let i1 = i2.before.before in
-    let g2 = i1.before.before in
-    let g1 = g2.before.before in
-    let e = g1.before.before.before.before.before.before in
-    let h = k e in
-    by_tests (d e) (to_z-of_z h.imax) (no_less e)
+pub returns : goal.returns
+returns c =
+    let d = pll_of_q15 c.args.d in
+    let h = held c.args.d c.struct_told-1.given in
+    let n = positive d (to_z-of_z h.imax) c.if-imax-lt0.false in
+    by_tests d (to_z-of_z h.imax) n
     (ap (le_z (pos 0)) (to_z-of_z h.kp))
     (ap (le_z (pos 0)) (to_z-of_z h.ki))
-    (i1.in-range.ensures ∙ rw (to_z-of_z h.beta))
-    (g1.guard-fits.ensures ∙ ap₂ (λ (k m : ℤ). fits64 (guard_of k m)) (to_z-of_z h.kp) (to_z-of_z h.imax))
-    (g2.guard-fits2.ensures ∙ ap₂ (λ (k m : ℤ). fits64 (guard_of k m)) (to_z-of_z h.ki) (to_z-of_z h.imax))
-    (c.in-range3.ensures ∙ rw (minus_held (to_z-of_z h.imax) h.imax (not_below (d e).gains.imax (no_less e)), to_z-of_z h.imax, to_z-of_z h.integ))
-    (i2.in-range2.ensures ∙ rw (to_z-of_z h.level))
-
-pub is-fit-spec : {M : Type 1} → statement M
-is-fit-spec =
-    tie.close
-    (tie.spec
-    returns
-    (λ c κs. search rules)
-    (λ c κs. search rules)
-    (λ c κs. search rules)
-    (λ c κs. search rules)
-    sub-in-range
-    (λ c κs. search rules)
-    returns-2)
+    (c.in_range.ensures ∙ rw (to_z-of_z h.beta))
+    (c.guard_fits.ensures ∙ ap₂ (λ (k m : ℤ). fits64 (guard_of k m)) (to_z-of_z h.kp) (to_z-of_z h.imax))
+    (c.guard_fits-2.ensures ∙ ap₂ (λ (k m : ℤ). fits64 (guard_of k m)) (to_z-of_z h.ki) (to_z-of_z h.imax))
+    (c.in_range-3.ensures ∙ rw (minus_held (to_z-of_z h.imax) h.imax (not_below d.gains.imax n), to_z-of_z h.imax, to_z-of_z h.integ))
+    (c.in_range-2.ensures ∙ rw (to_z-of_z h.level))
