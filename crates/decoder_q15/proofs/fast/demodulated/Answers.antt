@@ -13,8 +13,7 @@ use mir.Facts.{sfits_widen, to_z-of_z}
 use Rattle.rounding.proofs.Lin.{add_law, abs_out, mul_le, fits_abs, abs_fits, fit_in, shr_law, lt_no, lt_no_in, widened, shr_fits}
 use Rattle.numbers.specs.Integers.{sat16_of, round_shift_of}
 use Rattle.numbers.proofs.Integers.{round_is}
-use Rattle.decoder_q15.proofs.fast.demodulated.Statement.{statement}
-use Rattle.decoder_q15.proofs.fast.demodulated.Tie as tie
+use Rattle.decoder_q15.proofs.fast.demodulated.Goals as goal
 
 -- of z is what the machine holds of a z in 32 bits
 abbrev of : ℤ → ℤ
@@ -72,26 +71,22 @@ module _ (x s : ℤ) (f : SFits w16 x) (g : SFits w32 s) (small : nat_abs s ≤ 
   y-fits : lt_z (pos 32767) Y ≡ false → SFits w16 Y
   y-fits h = rw y-is (fit_in w16 y (omega (arith, lt_no (pos 32767) y (rw y-is at h))) (omega (arith, lt_no y (negsuc 32767) not_low)))
 
-cast-y : tie.Need-overflow-cast-y
-cast-y c = x_fits c.args.x c.args.s2 c.ranges.x c.ranges.s2 c.requires
+pub overflow_cast-y : goal.overflow_cast-y
+overflow_cast-y c = x_fits c.args.x c.args.s2 c.ranges.x c.ranges.s2 c.requires
 
-mul-y : tie.Need-overflow-mul-y
-mul-y c = product_fits c.args.x c.args.s2 c.ranges.x c.ranges.s2 c.requires
+pub overflow_mul-y : goal.overflow_mul-y
+overflow_mul-y c = product_fits c.args.x c.args.s2 c.ranges.x c.ranges.s2 c.requires
 
-add-y : tie.Need-overflow-add-y
-add-y c = raised_fits c.args.x c.args.s2 c.ranges.x c.ranges.s2 c.requires
+pub overflow_add-y : goal.overflow_add-y
+overflow_add-y c = raised_fits c.args.x c.args.s2 c.ranges.x c.ranges.s2 c.requires
 
-returns : tie.Need-returns
-returns c = let s = c.before in limited-is s.args.x s.args.s2 s.ranges.x s.ranges.s2 s.requires c.if1.true
+pub returns-then-y-gt32767 : goal.returns-then-y-gt32767
+returns-then-y-gt32767 c = limited-is c.args.x c.args.s2 c.ranges.x c.ranges.s2 c.requires c.if-y-gt32767.true
 
-cast-result : tie.Need-overflow-cast-result
-cast-result c = let s = c.before in y-fits s.args.x s.args.s2 s.ranges.x s.ranges.s2 s.requires c.if1.false
+pub overflow_cast-result : goal.overflow_cast-result
+overflow_cast-result c = y-fits c.args.x c.args.s2 c.ranges.x c.ranges.s2 c.requires c.if-y-gt32767.false
 
-returns-2 : tie.Need-returns-2
-returns-2 c =
-    let s = c.before in
-    to_z-of_z (y-fits s.args.x s.args.s2 s.ranges.x s.ranges.s2 s.requires c.if1.false)
-    ∙ limited-is s.args.x s.args.s2 s.ranges.x s.ranges.s2 s.requires c.if1.false
-
-pub demodulated-spec : {M : Type 1} → statement M
-demodulated-spec = tie.close (tie.spec cast-y mul-y add-y returns cast-result returns-2)
+pub returns : goal.returns
+returns c =
+    to_z-of_z (y-fits c.args.x c.args.s2 c.ranges.x c.ranges.s2 c.requires c.if-y-gt32767.false)
+    ∙ limited-is c.args.x c.args.s2 c.ranges.x c.ranges.s2 c.requires c.if-y-gt32767.false

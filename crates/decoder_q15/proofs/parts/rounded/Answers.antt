@@ -1,4 +1,3 @@
-use borrow.Author.Rules.{rules}
 use Prim.Native.Nat.{ℕ, ◌+◌, ◌^◌, ◌≤◌}
 use mathlib.Core.Path.{◌≡◌, sym, ◌∙◌}
 use mathlib.Core.Bool.{true, false}
@@ -11,8 +10,7 @@ use mir.Facts.{to_z-of_z}
 use Rattle.rounding.proofs.Lin.{up, dn, add_law, lt_no, le_yes, fit_out, fit_in, shr_fits, back}
 use Rattle.numbers.specs.Integers.{round_shift_of}
 use Rattle.numbers.proofs.Integers.{round_is}
-use Rattle.decoder_q15.proofs.parts.rounded.Statement.{statement}
-use Rattle.decoder_q15.proofs.parts.rounded.Tie as tie
+use Rattle.decoder_q15.proofs.parts.rounded.Goals as goal
 
 -- there is room for the half
 module _ (f m : ℤ) (s : SFits w64 f) (h : le_z f m ≡ true) (k : lt_z (pos 9223372034707292159) m ≡ false) where
@@ -28,18 +26,13 @@ module _ (f m : ℤ) (s : SFits w64 f) (h : le_z f m ≡ true) (k : lt_z (pos 92
       let n = half_fits 2147483648 (omega arith) in
       rw (e, to_z-of_z n) (to_z-of_z (shr_fits (2 ^ 32) n) ∙ sym (round_is f 32 (λ e. omega arith) (omega arith) below))
 
-returns : tie.Need-returns
-returns c = back w64 c.round-shift.result c.round-shift.type-inv ∙ c.round-shift.ensures ∙ rw (to_z-of_z c.before.before.ranges.f)
+pub returns-then-largest-gt9223372034707292159 : goal.returns-then-largest-gt9223372034707292159
+returns-then-largest-gt9223372034707292159 c = back w64 c.round_shift.result c.round_shift.type_inv ∙ c.round_shift.ensures ∙ rw (to_z-of_z c.ranges.f)
 
-add-result : tie.Need-overflow-add-result
-add-result c =
-    let a = c.before in
-    rw (to_z-of_z a.ranges.f) (half_fits a.args.f a.args.largest a.ranges.f a.requires (rw (to_z-of_z a.ranges.largest) at c.if1.false) _ (omega arith))
+pub overflow_add-result : goal.overflow_add-result
+overflow_add-result c =
+    rw (to_z-of_z c.ranges.f) (half_fits c.args.f c.args.largest c.ranges.f c.requires (rw (to_z-of_z c.ranges.largest) at c.if-largest-gt9223372034707292159.false) _ (omega arith))
 
-returns-2 : tie.Need-returns-2
-returns-2 c =
-    let a = c.before in
-    half_is a.args.f a.args.largest a.ranges.f a.requires (rw (to_z-of_z a.ranges.largest) at c.if1.false) (to_z-of_z a.ranges.f)
-
-pub rounded-spec : {M : Type 1} → statement M
-rounded-spec = tie.close (tie.spec (λ c κs. search rules) returns add-result returns-2)
+pub returns : goal.returns
+returns c =
+    half_is c.args.f c.args.largest c.ranges.f c.requires (rw (to_z-of_z c.ranges.largest) at c.if-largest-gt9223372034707292159.false) (to_z-of_z c.ranges.f)
