@@ -73,7 +73,7 @@ module _ {A D : Type 0} {F : Arithmetic A} {pll : D → Pll A} {share : ℕ} {t 
       wait = ap (λ v. v.mpx) (waits_at s number k ws nothing h place i.waits)
 
       -- nothing waits for it
-      pub lending_past : (d : D) {y' z' : List (Bor (List A))} {ds' : List D} → (get_or ws k nothing).mpx ≤ 0 → y' ≡ y → z' ≡ z → ds' ≡ ds
+      pub lending_past : (d : D) {y' z' : List (MutBor (List A))} {ds' : List D} → (get_or ws k nothing).mpx ≤ 0 → y' ≡ y → z' ≡ z → ds' ≡ ds
           → Lending F pll share t ds₀ x p y₀ z₀ ws number (k + 1) y' z' ds'
       lending_past d g ey ez ed = record {
         places = i.places;
