@@ -1,7 +1,7 @@
-use Prim.Native.Nat.{◌-◌, ◌*◌, ◌^◌, ◌<◌}
+use Prim.Native.Nat.{ℕ, ◌-◌, ◌*◌, ◌^◌, ◌<◌}
 use mathlib.Core.Path.{◌≡◌, sym, ap, ◌∙◌}
-use mathlib.Core.Logic.{⊎_elim}
 use mathlib.Core.Bool.{true, false}
+use mathlib.Core.List.{List}
 use native.Mathlib.Omega.{arith}
 use lib.IntN.{ℤ, pos, negsuc}
 use lib.Signed.{lt_z}
@@ -13,59 +13,185 @@ use Rattle.rounding.proofs.Lin.{back}
 use Rattle.decoder_record_q15.specs.Fit.{fit_q15}
 use Rattle.decoder_record_q15.specs.Records.{pll_of_q15}
 use Rattle.decoder.specs.Machine.{Stepped, step_of}
-use Rattle.decoder_q15.specs.Q15.{q15}
+use Rattle.decoder_q15.specs.Q15.{q15, step_if_fit}
 use Rattle.decoder_q15.proofs.Kept.{fit_next}
 use Rattle.summary_counts.specs.Counts.{ending_of}
 use Rattle.summary_record.specs.Record.{Summary, larger_of}
 use Rattle.summary_record.proofs.Fits.{fitted}
 use Rattle.summary_call.proofs.Noting.{Noting, noting_start, noting_on, noting_full, noting_end, has_place}
-use Rattle.summary_record.specs.Q15.{unsigned_q15, summary_of_q15}
+use Rattle.summary_record.specs.Q15.{unsigned_q15, larger_q15, summary_of_q15}
 use Rattle.summary_record.proofs.Negative.{unsigned_q15_lem}
 use Rattle.summary_q15.proofs.Difference.{difference_above}
+use Rattle.decoder_record.specs.State.{Pll}
+use Rattle.summary_q15.proofs.run.Goals.{then-is_full, else-is_full}
 use Rattle.summary_q15.proofs.run.Goals as goal
+
+-- what the machine holds of a sample
+abbrev kept : ℤ → ℤ
+kept z = to_z w16 (of_z w16 z)
+
+-- sample i of a block: its step, of a fit record, and the larger magnitude
+record Sampled (t mpx pilot : List ℤ) (st next : Pll ℤ) (i : ℕ) (difference magnitude larger : ℤ) : Type 0 where
+  ex : kept (get_or mpx i (pos 0)) ≡ get_or mpx i (pos 0)
+  ep : kept (get_or pilot i (pos 0)) ≡ get_or pilot i (pos 0)
+  e : record { sum = kept (get_or mpx i (pos 0)); difference = kept difference; pll = next } ≡ step_of q15 t st (kept (get_or mpx i (pos 0))) (kept (get_or pilot i (pos 0)))
+  fit : fit_q15 next ≡ true
+  larger_is : kept larger ≡ larger_of q15 magnitude (kept difference)
+
+sampled : (t mpx pilot : List ℤ) (st next : Pll ℤ) (i : ℕ) (difference magnitude larger : ℤ)
+    → SFits w16 (get_or mpx i (pos 0)) → SFits w16 (get_or pilot i (pos 0)) → SFits w16 difference → SFits w16 larger
+    → fit_q15 st ≡ true
+    → record { sum = kept (get_or mpx i (pos 0)); difference = difference; pll = next } ≡ step_if_fit t st (kept (get_or mpx i (pos 0))) (kept (get_or pilot i (pos 0)))
+    → larger ≡ larger_q15 magnitude (kept difference)
+    → Sampled t mpx pilot st next i difference magnitude larger
+sampled t mpx pilot st next i difference magnitude larger fx fp fd fl f s g =
+    let x = kept (get_or mpx i (pos 0)) in
+    let p = kept (get_or pilot i (pos 0)) in
+    let ex : x ≡ get_or mpx i (pos 0) = to_z-of_z fx in
+    let ep : p ≡ get_or pilot i (pos 0) = to_z-of_z fp in
+    let e : record { sum = x; difference = kept difference; pll = next } ≡ step_of q15 t st x p = rw (to_z-of_z fd) (rw f at s) in
+    -- the difference is above -32768
+    let above : lt_z (kept difference) (negsuc 32766) ≡ false =
+        rw (ap (λ (z : Stepped ℤ). z.difference) e) (difference_above t st x p (rw ex fx)) in
+    record {
+      ex = ex;
+      ep = ep;
+      e = e;
+      fit = rw (ap (λ (z : Stepped ℤ). z.pll) e) (fit_next t st x p (rw ep fp) f);
+      larger_is = to_z-of_z fl ∙ g ∙ rw above;
+    }
 
 pub loop-i-init : goal.loop-i-init
 loop-i-init c =
-    let (let it : record { sum = to_z w16 (of_z w16 (get_or b.args.mpx.now k.loop-i.i (pos 0))); difference = to_z w16 (of_z w16 (c.step_checked-o.result.difference)); pll = pll_of_q15 c.step_checked-o.result.next } ≡ step_of q15 (((c.before.before).before.before).before).args.table.now (pll_of_q15 ((c.before.before).before.before).loop.st) (to_z w16 (of_z w16 (get_or b.args.mpx.now k.loop-i.i (pos 0)))) (to_z w16 (of_z w16 (get_or b.args.pilot.now k.loop-i.i (pos 0)))) = rw (let it : to_z w16 (of_z w16 D) ≡ D = back w16 D c.struct_told-in-loop-i-1.given.1.0.1 in it) (rw ((c.before.before).before.before).loop.inv.fit_state at c.step_checked-o.ensures) in it) c.pre in
     let a = c.args in
-    rw (to_z-of_z (let it : SFits w16 c.args.s.magnitude = record { sfits = c.struct_told-1.given.1.0.1 } in it))
-    (noting_start q15 unsigned_q15 unsigned_q15_lem a.table.now a.mpx.now a.pilot.now (pll_of_q15 a.d) (summary_of_q15 a.s) (let it : record { sum = to_z w16 (of_z w16 X); difference = to_z w16 (of_z w16 D); pll = pll_of_q15 c.step_checked-o.result.next } ≡ step_of q15 b.args.table.now (pll_of_q15 k.loop-i.st) (to_z w16 (of_z w16 X)) (to_z w16 (of_z w16 (get_or b.args.pilot.now k.loop-i.i (pos 0)))) = rw dx (rw k.loop-i.inv.fit_state at c.step_checked-o.ensures) in it).0.1 (let it : record { sum = to_z w16 (of_z w16 X); difference = to_z w16 (of_z w16 D); pll = pll_of_q15 c.step_checked-o.result.next } ≡ step_of q15 b.args.table.now (pll_of_q15 k.loop-i.st) (to_z w16 (of_z w16 X)) (to_z w16 (of_z w16 (get_or b.args.pilot.now k.loop-i.i (pos 0)))) = rw dx (rw k.loop-i.inv.fit_state at c.step_checked-o.ensures) in it).0.2 (let it : record { sum = to_z w16 (of_z w16 X); difference = to_z w16 (of_z w16 D); pll = pll_of_q15 c.step_checked-o.result.next } ≡ step_of q15 b.args.table.now (pll_of_q15 k.loop-i.st) (to_z w16 (of_z w16 X)) (to_z w16 (of_z w16 (get_or b.args.pilot.now k.loop-i.i (pos 0)))) = rw dx (rw k.loop-i.inv.fit_state at c.step_checked-o.ensures) in it).1.0.0 (let it : record { sum = to_z w16 (of_z w16 X); difference = to_z w16 (of_z w16 D); pll = pll_of_q15 c.step_checked-o.result.next } ≡ step_of q15 b.args.table.now (pll_of_q15 k.loop-i.st) (to_z w16 (of_z w16 X)) (to_z w16 (of_z w16 (get_or b.args.pilot.now k.loop-i.i (pos 0)))) = rw dx (rw k.loop-i.inv.fit_state at c.step_checked-o.ensures) in it).1.0.1 (let it : record { sum = to_z w16 (of_z w16 X); difference = to_z w16 (of_z w16 D); pll = pll_of_q15 c.step_checked-o.result.next } ≡ step_of q15 b.args.table.now (pll_of_q15 k.loop-i.st) (to_z w16 (of_z w16 X)) (to_z w16 (of_z w16 (get_or b.args.pilot.now k.loop-i.i (pos 0)))) = rw dx (rw k.loop-i.inv.fit_state at c.step_checked-o.ensures) in it).1.0.2 (let it : record { sum = to_z w16 (of_z w16 X); difference = to_z w16 (of_z w16 D); pll = pll_of_q15 c.step_checked-o.result.next } ≡ step_of q15 b.args.table.now (pll_of_q15 k.loop-i.st) (to_z w16 (of_z w16 X)) (to_z w16 (of_z w16 (get_or b.args.pilot.now k.loop-i.i (pos 0)))) = rw dx (rw k.loop-i.inv.fit_state at c.step_checked-o.ensures) in it).1.0.3 (let it : record { sum = to_z w16 (of_z w16 X); difference = to_z w16 (of_z w16 D); pll = pll_of_q15 c.step_checked-o.result.next } ≡ step_of q15 b.args.table.now (pll_of_q15 k.loop-i.st) (to_z w16 (of_z w16 X)) (to_z w16 (of_z w16 (get_or b.args.pilot.now k.loop-i.i (pos 0)))) = rw dx (rw k.loop-i.inv.fit_state at c.step_checked-o.ensures) in it).1.1.1 (fitted q15 unsigned_q15 (summary_of_q15 a.s) (let it : record { sum = to_z w16 (of_z w16 X); difference = to_z w16 (of_z w16 D); pll = pll_of_q15 c.step_checked-o.result.next } ≡ step_of q15 b.args.table.now (pll_of_q15 k.loop-i.st) (to_z w16 (of_z w16 X)) (to_z w16 (of_z w16 (get_or b.args.pilot.now k.loop-i.i (pos 0)))) = rw dx (rw k.loop-i.inv.fit_state at c.step_checked-o.ensures) in it).1.1.0))
+    let x = c.requires.fact_1 in
+    let n = c.requires.fact_2 in
+    let held : SFits w16 a.s.magnitude = record { sfits = c.struct_told-1.given.1.0.1 } in
+    rw (to_z-of_z held)
+    (noting_start q15 unsigned_q15 unsigned_q15_lem a.table.now a.mpx.now a.pilot.now (pll_of_q15 a.d) (summary_of_q15 a.s) x.1 x.2 n.0 n.1 n.2 n.3 c.requires.fact_4 (fitted q15 unsigned_q15 (summary_of_q15 a.s) c.requires.fact_3))
 
-pub offset_bounds-mpx-i : goal.offset_bounds-mpx-i
-offset_bounds-mpx-i c = omega (arith, c.loop-i-test.true, (let it : length c.args.mpx.now * 2 < 2 ^ 63 = c.well_formed.1.1.1.0.1 in it))
-
-pub offset_bounds-pilot-i : goal.offset_bounds-pilot-i
-offset_bounds-pilot-i c = omega (arith, c.loop-i-test.true, (let it : length c.args.mpx.now * 2 < 2 ^ 63 = c.well_formed.1.1.1.0.1 in it))
-
-pub bounds-pilot-i : goal.bounds-pilot-i
-bounds-pilot-i c = omega (arith, c.loop-i-test.true, c.requires.fact_1.0)
+pub offset_bounds-stereos-k : goal.offset_bounds-stereos-k
+offset_bounds-stereos-k c =
+    let a = c.args in
+    let l = c.loop-i in
+    let m : Summary ℤ = record { counts = a.s.counts; magnitude = kept a.s.magnitude } in
+    let w = sampled a.table.now a.mpx.now a.pilot.now (pll_of_q15 l.st) (pll_of_q15 c.step_checked-o.result.next) l.i c.step_checked-o.result.difference (to_z w16 l.magnitude-bits) c.larger-magnitude.result
+        (record { sfits = c.x-1.given }) (record { sfits = c.p-1.given }) (record { sfits = c.struct_told-in-loop-i-1.given.1.0.1 }) (record { sfits = c.larger-magnitude.type_inv })
+        l.invariant.fit_state c.step_checked-o.ensures c.larger-magnitude.ensures in
+    let room = has_place q15 unsigned_q15 unsigned_q15_lem a.table.now a.mpx.now a.pilot.now (pll_of_q15 a.d) m l.invariant c.loop-i-test.true w.ex w.ep w.e w.fit c.counted-counts.ensures.fact_2 w.larger_is (sym c.is_full.ensures ∙ c.if-is_full.true) in
+    let of-stereos : length a.stereos.now * 4 < 2 ^ 63 = c.well_formed.1.1.1.1.1.1.1.0.1 in
+    omega (arith, room, c.requires.fact_2.0, of-stereos)
 
 pub bounds-stereos-k : goal.bounds-stereos-k
-bounds-stereos-k c = omega (arith, (let f = c.if-is_full.true in has_place q15 unsigned_q15 unsigned_q15_lem (b y).args.table.now (b y).args.mpx.now (b y).args.pilot.now (pll_of_q15 (b y).args.d) ((record { counts = b.args.s.counts; magnitude = to_z w16 (of_z w16 b.args.s.magnitude) })) (k y).loop.inv (h y) (ex y) (ep y) ((let it : record { sum = to_z w16 (of_z w16 X); difference = to_z w16 (of_z w16 D); pll = pll_of_q15 o.step_checked-o.result.next } ≡ step_of q15 b.args.table.now (pll_of_q15 k.loop-i.st) (to_z w16 (of_z w16 X)) (to_z w16 (of_z w16 P)) = rw dx (rw k.loop-i.inv.fit_state at o.step_checked-o.ensures) in it)) ((let it : fit_q15 (pll_of_q15 o.step_checked-o.result.next) ≡ true = rw (ap (λ (z : Stepped ℤ). z.pll) e) (fit_next b.args.table.now (pll_of_q15 k.loop-i.st) (to_z w16 (of_z w16 X)) (to_z w16 (of_z w16 P)) (rw ep (record { sfits = o.p-1.given })) k.loop-i.inv.fit_state) in it)) l.counted-counts.ensures.fact_2 (let it : to_z w16 (of_z w16 l.larger-magnitude.result) ≡ larger_of q15 (to_z w16 (k y).loop.magnitude) (to_z w16 (of_z w16 (D y))) = back w16 l.larger-magnitude.result l.larger-magnitude.ok ∙ l.larger-magnitude.ensures ∙ rw (above y) in it)), x.loop-i.inv.placed.stereo.size)
+bounds-stereos-k c =
+    let a = c.args in
+    let l = c.loop-i in
+    let m : Summary ℤ = record { counts = a.s.counts; magnitude = kept a.s.magnitude } in
+    let w = sampled a.table.now a.mpx.now a.pilot.now (pll_of_q15 l.st) (pll_of_q15 c.step_checked-o.result.next) l.i c.step_checked-o.result.difference (to_z w16 l.magnitude-bits) c.larger-magnitude.result
+        (record { sfits = c.x-1.given }) (record { sfits = c.p-1.given }) (record { sfits = c.struct_told-in-loop-i-1.given.1.0.1 }) (record { sfits = c.larger-magnitude.type_inv })
+        l.invariant.fit_state c.step_checked-o.ensures c.larger-magnitude.ensures in
+    let room = has_place q15 unsigned_q15 unsigned_q15_lem a.table.now a.mpx.now a.pilot.now (pll_of_q15 a.d) m l.invariant c.loop-i-test.true w.ex w.ep w.e w.fit c.counted-counts.ensures.fact_2 w.larger_is (sym c.is_full.ensures ∙ c.if-is_full.true) in
+    omega (arith, room, l.invariant.placed.stereo.size)
+
+pub offset_bounds-monos-k : goal.offset_bounds-monos-k
+offset_bounds-monos-k c =
+    let a = c.args in
+    let l = c.loop-i in
+    let m : Summary ℤ = record { counts = a.s.counts; magnitude = kept a.s.magnitude } in
+    let w = sampled a.table.now a.mpx.now a.pilot.now (pll_of_q15 l.st) (pll_of_q15 c.step_checked-o.result.next) l.i c.step_checked-o.result.difference (to_z w16 l.magnitude-bits) c.larger-magnitude.result
+        (record { sfits = c.x-1.given }) (record { sfits = c.p-1.given }) (record { sfits = c.struct_told-in-loop-i-1.given.1.0.1 }) (record { sfits = c.larger-magnitude.type_inv })
+        l.invariant.fit_state c.step_checked-o.ensures c.larger-magnitude.ensures in
+    let room = has_place q15 unsigned_q15 unsigned_q15_lem a.table.now a.mpx.now a.pilot.now (pll_of_q15 a.d) m l.invariant c.loop-i-test.true w.ex w.ep w.e w.fit c.counted-counts.ensures.fact_2 w.larger_is (sym c.is_full.ensures ∙ c.if-is_full.true) in
+    let of-stereos : length a.stereos.now * 4 < 2 ^ 63 = c.well_formed.1.1.1.1.1.1.1.0.1 in
+    omega (arith, room, c.requires.fact_2.0, of-stereos)
 
 pub bounds-monos-k : goal.bounds-monos-k
-bounds-monos-k c = omega (arith, (let f = c.if-is_full.true in has_place q15 unsigned_q15 unsigned_q15_lem (b y).args.table.now (b y).args.mpx.now (b y).args.pilot.now (pll_of_q15 (b y).args.d) ((record { counts = b.args.s.counts; magnitude = to_z w16 (of_z w16 b.args.s.magnitude) })) (k y).loop.inv (h y) (ex y) (ep y) ((let it : record { sum = to_z w16 (of_z w16 X); difference = to_z w16 (of_z w16 D); pll = pll_of_q15 o.step_checked-o.result.next } ≡ step_of q15 b.args.table.now (pll_of_q15 k.loop-i.st) (to_z w16 (of_z w16 X)) (to_z w16 (of_z w16 P)) = rw dx (rw k.loop-i.inv.fit_state at o.step_checked-o.ensures) in it)) ((let it : fit_q15 (pll_of_q15 o.step_checked-o.result.next) ≡ true = rw (ap (λ (z : Stepped ℤ). z.pll) e) (fit_next b.args.table.now (pll_of_q15 k.loop-i.st) (to_z w16 (of_z w16 X)) (to_z w16 (of_z w16 P)) (rw ep (record { sfits = o.p-1.given })) k.loop-i.inv.fit_state) in it)) l.counted-counts.ensures.fact_2 (let it : to_z w16 (of_z w16 l.larger-magnitude.result) ≡ larger_of q15 (to_z w16 (k y).loop.magnitude) (to_z w16 (of_z w16 (D y))) = back w16 l.larger-magnitude.result l.larger-magnitude.ok ∙ l.larger-magnitude.ensures ∙ rw (above y) in it)), x.loop-i.inv.placed.mono.size)
+bounds-monos-k c =
+    let a = c.args in
+    let l = c.loop-i in
+    let m : Summary ℤ = record { counts = a.s.counts; magnitude = kept a.s.magnitude } in
+    let w = sampled a.table.now a.mpx.now a.pilot.now (pll_of_q15 l.st) (pll_of_q15 c.step_checked-o.result.next) l.i c.step_checked-o.result.difference (to_z w16 l.magnitude-bits) c.larger-magnitude.result
+        (record { sfits = c.x-1.given }) (record { sfits = c.p-1.given }) (record { sfits = c.struct_told-in-loop-i-1.given.1.0.1 }) (record { sfits = c.larger-magnitude.type_inv })
+        l.invariant.fit_state c.step_checked-o.ensures c.larger-magnitude.ensures in
+    let room = has_place q15 unsigned_q15 unsigned_q15_lem a.table.now a.mpx.now a.pilot.now (pll_of_q15 a.d) m l.invariant c.loop-i-test.true w.ex w.ep w.e w.fit c.counted-counts.ensures.fact_2 w.larger_is (sym c.is_full.ensures ∙ c.if-is_full.true) in
+    omega (arith, room, l.invariant.placed.mono.size)
+
+pub offset_bounds-changes-k : goal.offset_bounds-changes-k
+offset_bounds-changes-k c =
+    let a = c.args in
+    let l = c.loop-i in
+    let m : Summary ℤ = record { counts = a.s.counts; magnitude = kept a.s.magnitude } in
+    let w = sampled a.table.now a.mpx.now a.pilot.now (pll_of_q15 l.st) (pll_of_q15 c.step_checked-o.result.next) l.i c.step_checked-o.result.difference (to_z w16 l.magnitude-bits) c.larger-magnitude.result
+        (record { sfits = c.x-1.given }) (record { sfits = c.p-1.given }) (record { sfits = c.struct_told-in-loop-i-1.given.1.0.1 }) (record { sfits = c.larger-magnitude.type_inv })
+        l.invariant.fit_state c.step_checked-o.ensures c.larger-magnitude.ensures in
+    let room = has_place q15 unsigned_q15 unsigned_q15_lem a.table.now a.mpx.now a.pilot.now (pll_of_q15 a.d) m l.invariant c.loop-i-test.true w.ex w.ep w.e w.fit c.counted-counts.ensures.fact_2 w.larger_is (sym c.is_full.ensures ∙ c.if-is_full.true) in
+    let of-stereos : length a.stereos.now * 4 < 2 ^ 63 = c.well_formed.1.1.1.1.1.1.1.0.1 in
+    omega (arith, room, c.requires.fact_2.0, of-stereos)
 
 pub bounds-changes-k : goal.bounds-changes-k
-bounds-changes-k c = omega (arith, (let f = c.if-is_full.true in has_place q15 unsigned_q15 unsigned_q15_lem (b y).args.table.now (b y).args.mpx.now (b y).args.pilot.now (pll_of_q15 (b y).args.d) ((record { counts = b.args.s.counts; magnitude = to_z w16 (of_z w16 b.args.s.magnitude) })) (k y).loop.inv (h y) (ex y) (ep y) ((let it : record { sum = to_z w16 (of_z w16 X); difference = to_z w16 (of_z w16 D); pll = pll_of_q15 o.step_checked-o.result.next } ≡ step_of q15 b.args.table.now (pll_of_q15 k.loop-i.st) (to_z w16 (of_z w16 X)) (to_z w16 (of_z w16 P)) = rw dx (rw k.loop-i.inv.fit_state at o.step_checked-o.ensures) in it)) ((let it : fit_q15 (pll_of_q15 o.step_checked-o.result.next) ≡ true = rw (ap (λ (z : Stepped ℤ). z.pll) e) (fit_next b.args.table.now (pll_of_q15 k.loop-i.st) (to_z w16 (of_z w16 X)) (to_z w16 (of_z w16 P)) (rw ep (record { sfits = o.p-1.given })) k.loop-i.inv.fit_state) in it)) l.counted-counts.ensures.fact_2 (let it : to_z w16 (of_z w16 l.larger-magnitude.result) ≡ larger_of q15 (to_z w16 (k y).loop.magnitude) (to_z w16 (of_z w16 (D y))) = back w16 l.larger-magnitude.result l.larger-magnitude.ok ∙ l.larger-magnitude.ensures ∙ rw (above y) in it)), x.loop-i.inv.placed.changes.size)
+bounds-changes-k c =
+    let a = c.args in
+    let l = c.loop-i in
+    let m : Summary ℤ = record { counts = a.s.counts; magnitude = kept a.s.magnitude } in
+    let w = sampled a.table.now a.mpx.now a.pilot.now (pll_of_q15 l.st) (pll_of_q15 c.step_checked-o.result.next) l.i c.step_checked-o.result.difference (to_z w16 l.magnitude-bits) c.larger-magnitude.result
+        (record { sfits = c.x-1.given }) (record { sfits = c.p-1.given }) (record { sfits = c.struct_told-in-loop-i-1.given.1.0.1 }) (record { sfits = c.larger-magnitude.type_inv })
+        l.invariant.fit_state c.step_checked-o.ensures c.larger-magnitude.ensures in
+    let room = has_place q15 unsigned_q15 unsigned_q15_lem a.table.now a.mpx.now a.pilot.now (pll_of_q15 a.d) m l.invariant c.loop-i-test.true w.ex w.ep w.e w.fit c.counted-counts.ensures.fact_2 w.larger_is (sym c.is_full.ensures ∙ c.if-is_full.true) in
+    omega (arith, room, l.invariant.placed.changes.size)
+
+pub offset_bounds-magnitudes-k : goal.offset_bounds-magnitudes-k
+offset_bounds-magnitudes-k c =
+    let a = c.args in
+    let l = c.loop-i in
+    let m : Summary ℤ = record { counts = a.s.counts; magnitude = kept a.s.magnitude } in
+    let w = sampled a.table.now a.mpx.now a.pilot.now (pll_of_q15 l.st) (pll_of_q15 c.step_checked-o.result.next) l.i c.step_checked-o.result.difference (to_z w16 l.magnitude-bits) c.larger-magnitude.result
+        (record { sfits = c.x-1.given }) (record { sfits = c.p-1.given }) (record { sfits = c.struct_told-in-loop-i-1.given.1.0.1 }) (record { sfits = c.larger-magnitude.type_inv })
+        l.invariant.fit_state c.step_checked-o.ensures c.larger-magnitude.ensures in
+    let room = has_place q15 unsigned_q15 unsigned_q15_lem a.table.now a.mpx.now a.pilot.now (pll_of_q15 a.d) m l.invariant c.loop-i-test.true w.ex w.ep w.e w.fit c.counted-counts.ensures.fact_2 w.larger_is (sym c.is_full.ensures ∙ c.if-is_full.true) in
+    let of-stereos : length a.stereos.now * 4 < 2 ^ 63 = c.well_formed.1.1.1.1.1.1.1.0.1 in
+    omega (arith, room, c.requires.fact_2.0, of-stereos)
 
 pub bounds-magnitudes-k : goal.bounds-magnitudes-k
-bounds-magnitudes-k c = omega (arith, (let f = c.if-is_full.true in has_place q15 unsigned_q15 unsigned_q15_lem (b y).args.table.now (b y).args.mpx.now (b y).args.pilot.now (pll_of_q15 (b y).args.d) ((record { counts = b.args.s.counts; magnitude = to_z w16 (of_z w16 b.args.s.magnitude) })) (k y).loop.inv (h y) (ex y) (ep y) ((let it : record { sum = to_z w16 (of_z w16 X); difference = to_z w16 (of_z w16 D); pll = pll_of_q15 o.step_checked-o.result.next } ≡ step_of q15 b.args.table.now (pll_of_q15 k.loop-i.st) (to_z w16 (of_z w16 X)) (to_z w16 (of_z w16 P)) = rw dx (rw k.loop-i.inv.fit_state at o.step_checked-o.ensures) in it)) ((let it : fit_q15 (pll_of_q15 o.step_checked-o.result.next) ≡ true = rw (ap (λ (z : Stepped ℤ). z.pll) e) (fit_next b.args.table.now (pll_of_q15 k.loop-i.st) (to_z w16 (of_z w16 X)) (to_z w16 (of_z w16 P)) (rw ep (record { sfits = o.p-1.given })) k.loop-i.inv.fit_state) in it)) l.counted-counts.ensures.fact_2 (let it : to_z w16 (of_z w16 l.larger-magnitude.result) ≡ larger_of q15 (to_z w16 (k y).loop.magnitude) (to_z w16 (of_z w16 (D y))) = back w16 l.larger-magnitude.result l.larger-magnitude.ok ∙ l.larger-magnitude.ensures ∙ rw (above y) in it)), x.loop-i.inv.placed.magnitude.size)
+bounds-magnitudes-k c =
+    let a = c.args in
+    let l = c.loop-i in
+    let m : Summary ℤ = record { counts = a.s.counts; magnitude = kept a.s.magnitude } in
+    let w = sampled a.table.now a.mpx.now a.pilot.now (pll_of_q15 l.st) (pll_of_q15 c.step_checked-o.result.next) l.i c.step_checked-o.result.difference (to_z w16 l.magnitude-bits) c.larger-magnitude.result
+        (record { sfits = c.x-1.given }) (record { sfits = c.p-1.given }) (record { sfits = c.struct_told-in-loop-i-1.given.1.0.1 }) (record { sfits = c.larger-magnitude.type_inv })
+        l.invariant.fit_state c.step_checked-o.ensures c.larger-magnitude.ensures in
+    let room = has_place q15 unsigned_q15 unsigned_q15_lem a.table.now a.mpx.now a.pilot.now (pll_of_q15 a.d) m l.invariant c.loop-i-test.true w.ex w.ep w.e w.fit c.counted-counts.ensures.fact_2 w.larger_is (sym c.is_full.ensures ∙ c.if-is_full.true) in
+    omega (arith, room, l.invariant.placed.magnitude.size)
 
 pub overflow_add-k : goal.overflow_add-k
-overflow_add-k c = let i = c.before.before in omega (arith, (let f = c.if-is_full.true in has_place q15 unsigned_q15 unsigned_q15_lem (b y).args.table.now (b y).args.mpx.now (b y).args.pilot.now (pll_of_q15 (b y).args.d) ((record { counts = b.args.s.counts; magnitude = to_z w16 (of_z w16 b.args.s.magnitude) })) (k y).loop.inv (h y) (ex y) (ep y) ((let it : record { sum = to_z w16 (of_z w16 X); difference = to_z w16 (of_z w16 D); pll = pll_of_q15 o.step_checked-o.result.next } ≡ step_of q15 b.args.table.now (pll_of_q15 k.loop-i.st) (to_z w16 (of_z w16 X)) (to_z w16 (of_z w16 P)) = rw dx (rw k.loop-i.inv.fit_state at o.step_checked-o.ensures) in it)) ((let it : fit_q15 (pll_of_q15 o.step_checked-o.result.next) ≡ true = rw (ap (λ (z : Stepped ℤ). z.pll) e) (fit_next b.args.table.now (pll_of_q15 k.loop-i.st) (to_z w16 (of_z w16 X)) (to_z w16 (of_z w16 P)) (rw ep (record { sfits = o.p-1.given })) k.loop-i.inv.fit_state) in it)) l.counted-counts.ensures.fact_2 (let it : to_z w16 (of_z w16 l.larger-magnitude.result) ≡ larger_of q15 (to_z w16 (k y).loop.magnitude) (to_z w16 (of_z w16 (D y))) = back w16 l.larger-magnitude.result l.larger-magnitude.ok ∙ l.larger-magnitude.ensures ∙ rw (above y) in it)), k.requires.fact_2.0, of-stereos (k.before))
+overflow_add-k c =
+    let a = c.args in
+    let l = c.loop-i in
+    let m : Summary ℤ = record { counts = a.s.counts; magnitude = kept a.s.magnitude } in
+    let w = sampled a.table.now a.mpx.now a.pilot.now (pll_of_q15 l.st) (pll_of_q15 c.step_checked-o.result.next) l.i c.step_checked-o.result.difference (to_z w16 l.magnitude-bits) c.larger-magnitude.result
+        (record { sfits = c.x-1.given }) (record { sfits = c.p-1.given }) (record { sfits = c.struct_told-in-loop-i-1.given.1.0.1 }) (record { sfits = c.larger-magnitude.type_inv })
+        l.invariant.fit_state c.step_checked-o.ensures c.larger-magnitude.ensures in
+    let room = has_place q15 unsigned_q15 unsigned_q15_lem a.table.now a.mpx.now a.pilot.now (pll_of_q15 a.d) m l.invariant c.loop-i-test.true w.ex w.ep w.e w.fit c.counted-counts.ensures.fact_2 w.larger_is (sym c.is_full.ensures ∙ c.if-is_full.true) in
+    let of-stereos : length a.stereos.now * 4 < 2 ^ 63 = c.well_formed.1.1.1.1.1.1.1.0.1 in
+    omega (arith, room, c.requires.fact_2.0, of-stereos)
 
 pub loop-i-preserved : goal.loop-i-preserved
 loop-i-preserved c =
-    let q = (l.before.before.before) in
-    ⊎_elim
-    (λ w.
-    rw (w.2, w.3, w.4, w.5, w.6, w.7, w.8, w.1.ensures)
-    (noting_full q15 unsigned_q15 unsigned_q15_lem k.args.table.now k.args.mpx.now k.args.pilot.now (pll_of_q15 k.args.d) ((record { counts = b.args.s.counts; magnitude = to_z w16 (of_z w16 b.args.s.magnitude) })) x.loop-i.inv ((x.loop-i-test.taken)) ((let it : to_z w16 (of_z w16 X) ≡ (get_or b.args.mpx.now k.loop-i.i (pos 0)) back w16 (get_or b.args.mpx.now k.loop-i.i (pos 0)) in it)) ((let it : to_z w16 (of_z w16 P) ≡ (get_or b.args.pilot.now k.loop-i.i (pos 0)) back w16 (get_or b.args.pilot.now k.loop-i.i (pos 0)) in it)) ((let it : record { sum = to_z w16 (of_z w16 X); difference = to_z w16 (of_z w16 D); pll = pll_of_q15 o.step_checked-o.result.next } ≡ step_of q15 b.args.table.now (pll_of_q15 k.loop-i.st) (to_z w16 (of_z w16 X)) (to_z w16 (of_z w16 P)) = rw dx (rw k.loop-i.inv.fit_state at o.step_checked-o.ensures) in it)) ((let it : fit_q15 (pll_of_q15 o.step_checked-o.result.next) ≡ true = rw (ap (λ (z : Stepped ℤ). z.pll) e) (fit_next b.args.table.now (pll_of_q15 k.loop-i.st) (to_z w16 (of_z w16 X)) (to_z w16 (of_z w16 P)) (rw ep (record { sfits = o.p-1.given })) k.loop-i.inv.fit_state) in it)) c.counted-counts.ensures.fact_2 ((let it : to_z w16 (of_z w16 l.larger-magnitude.result) ≡ larger_of q15 (to_z w16 (k y).loop.magnitude) (to_z w16 (of_z w16 (D y))) = back w16 l.larger-magnitude.result l.larger-magnitude.ok ∙ l.larger-magnitude.ensures ∙ rw (above y) in it)) (sym c.is_full.ensures ∙ w.0.taken)))
-    (λ w.
-    rw (w.1, w.2, w.3, w.4, w.5, w.6, w.7)
-    (noting_on q15 unsigned_q15 unsigned_q15_lem k.args.table.now k.args.mpx.now k.args.pilot.now (pll_of_q15 k.args.d) ((record { counts = b.args.s.counts; magnitude = to_z w16 (of_z w16 b.args.s.magnitude) })) x.loop-i.inv ((x.loop-i-test.taken)) ((let it : to_z w16 (of_z w16 X) ≡ (get_or b.args.mpx.now k.loop-i.i (pos 0)) back w16 (get_or b.args.mpx.now k.loop-i.i (pos 0)) in it)) ((let it : to_z w16 (of_z w16 P) ≡ (get_or b.args.pilot.now k.loop-i.i (pos 0)) back w16 (get_or b.args.pilot.now k.loop-i.i (pos 0)) in it)) ((let it : record { sum = to_z w16 (of_z w16 X); difference = to_z w16 (of_z w16 D); pll = pll_of_q15 o.step_checked-o.result.next } ≡ step_of q15 b.args.table.now (pll_of_q15 k.loop-i.st) (to_z w16 (of_z w16 X)) (to_z w16 (of_z w16 P)) = rw dx (rw k.loop-i.inv.fit_state at o.step_checked-o.ensures) in it)) ((let it : fit_q15 (pll_of_q15 o.step_checked-o.result.next) ≡ true = rw (ap (λ (z : Stepped ℤ). z.pll) e) (fit_next b.args.table.now (pll_of_q15 k.loop-i.st) (to_z w16 (of_z w16 X)) (to_z w16 (of_z w16 P)) (rw ep (record { sfits = o.p-1.given })) k.loop-i.inv.fit_state) in it)) c.counted-counts.ensures.fact_2 ((let it : to_z w16 (of_z w16 l.larger-magnitude.result) ≡ larger_of q15 (to_z w16 (k y).loop.magnitude) (to_z w16 (of_z w16 (D y))) = back w16 l.larger-magnitude.result l.larger-magnitude.ok ∙ l.larger-magnitude.ensures ∙ rw (above y) in it)) (sym c.is_full.ensures ∙ w.0.left)))
-    c.if-is_full.branch
+    let a = c.args in
+    let l = c.loop-i in
+    let m : Summary ℤ = record { counts = a.s.counts; magnitude = kept a.s.magnitude } in
+    let w = sampled a.table.now a.mpx.now a.pilot.now (pll_of_q15 l.st) (pll_of_q15 c.step_checked-o.result.next) l.i c.step_checked-o.result.difference (to_z w16 l.magnitude-bits) c.larger-magnitude.result
+        (record { sfits = c.x-1.given }) (record { sfits = c.p-1.given }) (record { sfits = c.struct_told-in-loop-i-1.given.1.0.1 }) (record { sfits = c.larger-magnitude.type_inv })
+        l.invariant.fit_state c.step_checked-o.ensures c.larger-magnitude.ensures in
+    elim c.if-is_full.branch [
+      then-is_full v ↦
+          rw (v.stereos-is, v.monos-is, v.changes-is, v.magnitudes-is, v.counts-is, v.magnitude-is, v.k-is, v.empty-counts.ensures)
+          (noting_full q15 unsigned_q15 unsigned_q15_lem a.table.now a.mpx.now a.pilot.now (pll_of_q15 a.d) m l.invariant c.loop-i-test.true w.ex w.ep w.e w.fit c.counted-counts.ensures.fact_2 w.larger_is (sym c.is_full.ensures ∙ v.if-is_full.true))
+    | else-is_full v ↦
+          rw (v.stereos-is, v.monos-is, v.changes-is, v.magnitudes-is, v.counts-is, v.magnitude-is, v.k-is)
+          (noting_on q15 unsigned_q15 unsigned_q15_lem a.table.now a.mpx.now a.pilot.now (pll_of_q15 a.d) m l.invariant c.loop-i-test.true w.ex w.ep w.e w.fit c.counted-counts.ensures.fact_2 w.larger_is (sym c.is_full.ensures ∙ v.if-is_full.false))
+    ]
 
 pub returns : goal.returns
-returns c = rw (to_z-of_z (let it : SFits w16 c.args.s.magnitude = record { sfits = c.struct_told-1.given.1.0.1 } in it)) at (noting_end q15 unsigned_q15 unsigned_q15_lem _ _ _ _ _ c.loop-i.invariant c.loop-i-test.false)
+returns c =
+    let held : SFits w16 c.args.s.magnitude = record { sfits = c.struct_told-1.given.1.0.1 } in
+    rw (to_z-of_z held) at (noting_end q15 unsigned_q15 unsigned_q15_lem _ _ _ _ _ c.loop-i.invariant c.loop-i-test.false)

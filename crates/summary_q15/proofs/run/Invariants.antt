@@ -26,8 +26,8 @@ use Rattle.summary_q15.proofs.run.Given as goal
 
 abbrev pub invariant-loop-i : goal.invariant-loop-i
 invariant-loop-i l =
-    Noting q15 unsigned_q15 unsigned_q15_lem l.table l.mpx l.pilot (pll_of_q15 l.initial.st) (record { counts = l.initial.counts; magnitude = to_z w16 l.initial.magnitude }) l.i l.k l.sum l.difference
-    (record { stereo = l.stereos; mono = l.monos; changes = l.changes; magnitude = l.magnitudes }) (pll_of_q15 l.st) (record { counts = l.counts; magnitude = to_z w16 l.magnitude })
+    Noting q15 unsigned_q15 unsigned_q15_lem l.table l.mpx l.pilot (pll_of_q15 l.initial.st) (record { counts = l.initial.counts; magnitude = l.initial.magnitude }) l.i l.k l.sum l.difference
+    (record { stereo = l.stereos; mono = l.monos; changes = l.changes; magnitude = l.magnitudes }) (pll_of_q15 l.st) (record { counts = l.counts; magnitude = l.magnitude })
 
 abbrev pub decreases-loop-i : goal.decreases-loop-i
 decreases-loop-i l =
