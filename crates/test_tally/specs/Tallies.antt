@@ -36,3 +36,7 @@ end_of t = record { agreed = t.agreed; all_agreed = t.all_agreed; differed = t.d
 -- whether no line differed and none was malformed
 abbrev pub flawless : Tally → Bool
 flawless t = t.differed == 0 && t.malformed == 0
+
+-- whether one more line that is wrong is shown: fewer than 20 were wrong before
+abbrev pub shown_at : Tally → Bool
+shown_at t = nat_lt ((t.differed + t.malformed) % 2 ^ 64) 20

@@ -8,11 +8,10 @@ use borrow.Author.Tests.{eq-eqb, ne_eqb, leb-true, leb-false, ltb-true, ltb-fals
 use lib.Dec.{leb, ltb}
 use Rattle.test_words.specs.Words.{word_of, signed_of, is_signed}
 use Rattle.test_words.proofs.Signed.{word_low, word_high}
-use Rattle.test_words.proofs.words.is_i16.Statement.{statement}
-use Rattle.test_words.proofs.words.is_i16.Tie as tie
+use Rattle.test_words.proofs.words.is_i16.Goals as goal
 
-returns : tie.Need-returns
-returns c = let w = c.before.args.w in sym (eq-eqb _ w (omega (arith, word_low 16 w (omega arith))))
+pub returns-then-w-lt32768 : goal.returns-then-w-lt32768
+returns-then-w-lt32768 c = let w = c.args.w in sym (eq-eqb _ w (omega (arith, word_low 16 w (omega arith))))
 
 above : (w : ℕ) → 32768 ≤ w → w < 2 ^ 64 → (t : Bool) → leb 18446744073709518848 w ≡ t → t ≡ is_signed 16 w
 above w h f true e = let g = leb-true 18446744073709518848 w e in sym (eq-eqb _ w (omega (arith, word_high 16 w (omega arith))))
@@ -22,8 +21,5 @@ above w h f false e = sym (ne_eqb _ w (go (leb-false 18446744073709518848 w e) (
     go g true p q = let l = ltb-true (w % 65536) 32768 p in omega (arith, word_low 16 w l)
     go g false p q = let l = ltb-false (w % 65536) 32768 p in omega (arith, word_high 16 w l)
 
-returns-2 : tie.Need-returns-2
-returns-2 c = let w = c.before.args.w in above w (omega arith) (omega arith) (leb 18446744073709518848 w) refl
-
-pub is-i16-spec : {M : Type 1} → statement M
-is-i16-spec = tie.close (tie.spec returns returns-2)
+pub returns : goal.returns
+returns c = let w = c.args.w in above w (omega arith) (omega arith) (leb 18446744073709518848 w) refl
