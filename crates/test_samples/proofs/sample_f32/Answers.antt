@@ -1,0 +1,27 @@
+-- `test_samples::sample_f32` meets its contract. Assumes nothing.
+use borrow.Author.Tests.{ne_eqb}
+use Prim.Native.Nat.{◌/◌, ◌^◌}
+use Rattle.test_samples.specs.Samples.{sample_f32_of}
+use Rattle.test_samples.proofs.sample_f32.Goals as goal
+
+pub returns-in-1 : goal.returns-in-1
+unfolding sample_f32_of
+returns-in-1 c = rw (c.f64_to_f32.ensures, c.triangle.ensures, c.in-1.is)
+
+pub returns-in-2 : goal.returns-in-2
+unfolding sample_f32_of
+returns-in-2 c = rw (c.f32_of.ensures, c.in-2.is)
+
+pub returns-in-3 : goal.returns-in-3
+unfolding sample_f32_of
+returns-in-3 c =
+    let d = c in
+    rw (c.f32_of-in-3.ensures, c.bounded.ensures, d.drawn.ensures, d.in-3.is)
+
+pub returns-in_default : goal.returns-in_default
+unfolding sample_f32_of
+returns-in_default c =
+    let m = c in
+    let kind = m.args.spec / 2 ^ 32 in
+    let no = m.in-1.rest in
+    rw (c.any_f32.ensures, c.drawn-in_default.ensures, ne_eqb kind 1 no.0.0.1, ne_eqb kind 2 no.0.1, ne_eqb kind 3 no.1)
