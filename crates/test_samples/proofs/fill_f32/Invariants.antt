@@ -1,8 +1,6 @@
 use Prim.Native.Nat.{◌-◌, ◌≤◌}
-use mathlib.Core.Path.{refl}
-use native.Mathlib.Omega.{arith}
 use lib.ListN.{length}
-use Rattle.answers.proofs.Samples.{Filled, filled_start, filled_next, filled_end}
+use Rattle.answers.proofs.Samples.{Filled}
 use Rattle.test_samples.specs.Samples.{sample_f32_of}
 use Rattle.test_samples.proofs.fill_f32.Given as goal
 

@@ -1,12 +1,9 @@
 -- `test_samples::fill_q15` meets its contract. The measure is how many samples are left. Assumes nothing.
 use mir.Syntax.{w16}
 use Rattle.rounding.proofs.Lin.{back}
-use Prim.Native.Nat.{◌-◌, ◌≤◌}
 use mathlib.Core.Path.{refl, ◌∙◌}
 use native.Mathlib.Omega.{arith}
-use lib.ListN.{length}
-use Rattle.answers.proofs.Samples.{Filled, filled_start, filled_next, filled_end}
-use Rattle.test_samples.specs.Samples.{sample_q15_of}
+use Rattle.answers.proofs.Samples.{filled_start, filled_next, filled_end}
 use Rattle.test_samples.proofs.fill_q15.Goals as goal
 
 pub loop-i-init : goal.loop-i-init
@@ -17,9 +14,6 @@ loop-i-preserved c =
     let w = c.loop-i.invariant in
     let s = c.sample_q15 in
     (omega (arith, w.1.size), filled_next w.1 (omega (arith, w.1.size)) (back w16 s.result s.type_inv ∙ s.ensures))
-
-pub TODO-same-length : goal.TODO-same-length
-TODO-same-length c = c.loop-i.invariant.1.size
 
 pub returns : goal.returns
 returns c = let w = c.loop-i.invariant in filled_end w.1 w.0 (omega (arith, w.1.size))

@@ -1,10 +1,6 @@
-use mir.Syntax.{w16}
-use Rattle.rounding.proofs.Lin.{back}
 use Prim.Native.Nat.{◌-◌, ◌≤◌}
-use mathlib.Core.Path.{refl, ◌∙◌}
-use native.Mathlib.Omega.{arith}
 use lib.ListN.{length}
-use Rattle.answers.proofs.Samples.{Filled, filled_start, filled_next, filled_end}
+use Rattle.answers.proofs.Samples.{Filled}
 use Rattle.test_samples.specs.Samples.{sample_q15_of}
 use Rattle.test_samples.proofs.fill_q15.Given as goal
 

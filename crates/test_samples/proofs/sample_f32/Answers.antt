@@ -1,5 +1,7 @@
 -- `test_samples::sample_f32` meets its contract. Assumes nothing.
 use borrow.Author.Tests.{ne_eqb}
+use borrow.Author.Rules.{rules}
+use mathlib.Core.Path.{◌≡◌}
 use Prim.Native.Nat.{◌/◌, ◌^◌}
 use Rattle.test_samples.specs.Samples.{sample_f32_of}
 use Rattle.test_samples.proofs.sample_f32.Goals as goal
@@ -21,7 +23,8 @@ returns-in-3 c =
 pub returns-in_default : goal.returns-in_default
 unfolding sample_f32_of
 returns-in_default c =
-    let m = c in
-    let kind = m.args.spec / 2 ^ 32 in
-    let no = m.in-1.rest in
-    rw (c.any_f32.ensures, c.drawn-in_default.ensures, ne_eqb kind 1 no.0.0.1, ne_eqb kind 2 no.0.1, ne_eqb kind 3 no.1)
+    let kind = c.args.spec / 2 ^ 32 in
+    let no1 : kind ≡ 1 → ⊥ = search rules in
+    let no2 : kind ≡ 2 → ⊥ = search rules in
+    let no3 : kind ≡ 3 → ⊥ = search rules in
+    rw (c.any_f32.ensures, c.drawn-in_default.ensures, ne_eqb kind 1 no1, ne_eqb kind 2 no2, ne_eqb kind 3 no3)

@@ -1,7 +1,8 @@
 -- `test_samples::sample_q15` meets its contract. Assumes nothing.
 use borrow.Author.Tests.{ne_eqb}
+use borrow.Author.Rules.{rules}
 use Prim.Native.Nat.{◌/◌, ◌^◌}
-use mathlib.Core.Path.{◌∙◌}
+use mathlib.Core.Path.{◌≡◌, ◌∙◌}
 use mir.Syntax.{w16}
 use Rattle.rounding.proofs.Lin.{back}
 use Rattle.test_samples.specs.Samples.{sample_q15_of}
@@ -21,7 +22,7 @@ pub returns-in_default : goal.returns-in_default
 unfolding sample_q15_of
 returns-in_default c =
     let q = c.i16_of-in_default in
-    let m = c in
-    let kind = m.args.spec / 2 ^ 32 in
-    let no = m.in-1.rest in
-    back w16 q.result q.type_inv ∙ q.ensures ∙ rw (c.drawn.ensures, ne_eqb kind 1 no.0.1, ne_eqb kind 2 no.1)
+    let kind = c.args.spec / 2 ^ 32 in
+    let no1 : kind ≡ 1 → ⊥ = search rules in
+    let no2 : kind ≡ 2 → ⊥ = search rules in
+    back w16 q.result q.type_inv ∙ q.ensures ∙ rw (c.drawn.ensures, ne_eqb kind 1 no1, ne_eqb kind 2 no2)
