@@ -19,7 +19,7 @@ unfolding of_bits
 returns-then-quick_serves c =
     let w = c.wrapping_sub_u32 in
     let q = c in
-    ap Step (low_is (served c.before) w.result w.type_inv w.ensures) ∙ quick_by q.f32_to_f64.ensures (sym q.quick_serves.ensures ∙ c.if-quick_serves.true)
+    ap Step (low_is (served c.before) w.result w.type_inv w.ensures.value) ∙ quick_by q.f32_to_f64.ensures (sym q.quick_serves.ensures ∙ c.if-quick_serves.true)
 
 pub returns : goal.returns
 unfolding of_bits

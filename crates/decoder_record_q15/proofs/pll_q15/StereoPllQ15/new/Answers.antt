@@ -1,4 +1,3 @@
-use borrow.Author.Rules.{rules}
 use Prim.Native.Nat.{ℕ}
 use mathlib.Core.Path.{◌≡◌, sym, ap, ◌∙◌}
 use mathlib.Core.Bool.{true}
@@ -7,8 +6,7 @@ use Rattle.answers.specs.Answer.{Said, accepts, or_else, first_cause, made, refu
 use Rattle.answers.proofs.Causes.{none_yet, first_append, built_out, refused_stays}
 use Rattle.decoder_gains.specs.Gains.{Gains, gains_of, causes, common_of}
 use Rattle.decoder_record_q15.specs.Fresh.{causes_q15, fresh_q15, build_q15, new_q15_of}
-use Rattle.decoder_record_q15.proofs.pll_q15.StereoPllQ15.new.Statement.{statement}
-use Rattle.decoder_record_q15.proofs.pll_q15.StereoPllQ15.new.Tie as tie
+use Rattle.decoder_record_q15.proofs.pll_q15.StereoPllQ15.new.Goals as goal
 
 module _ (pilot natural level beta rate : Float) where
   -- the gains passed the causes of both formats: those of Q15 decide
@@ -31,11 +29,8 @@ module _ (pilot natural level beta rate : Float) where
       rw (first_append (causes pilot natural level beta rate) (causes_q15 (gains_of pilot natural level beta rate)))
       (sym (refused_stays (first_cause (causes pilot natural level beta rate)) _ (gains_of pilot natural level beta rate) _ (sym h)))
 
-returns : tie.Need-returns
-returns c = let g = c.before.before in c.build.ensures ∙ after-made _ _ _ _ _ (rw g.g.given.1 at g.before.before.common.ensures)
+pub returns-in-Good : goal.returns-in-Good
+returns-in-Good c = let g = c in c.build.ensures ∙ after-made _ _ _ _ _ (rw g.in-Good.is at g.common.ensures)
 
-returns-2 : tie.Need-returns-2
-returns-2 c = let n = c.before in after-refused _ _ _ _ _ (rw n.n.given.1 at n.before.before.common.ensures)
-
-pub new_spec : {M : Type 1} → statement M
-new_spec = tie.close (tie.spec (λ c κs. search rules) (λ c. search rules) (λ c κs. search rules) (λ c. search rules) returns returns-2)
+pub returns-in-Refused : goal.returns-in-Refused
+returns-in-Refused c = let n = c in after-refused _ _ _ _ _ (rw n.in-Refused.is at n.common.ensures)

@@ -1,4 +1,3 @@
-use borrow.Author.Rules.{rules}
 use Prim.Native.Nat.{◌+◌, ◌*◌, ◌^◌}
 use mathlib.Core.Path.{◌≡◌, refl}
 use mathlib.Core.Bool.{Bool, true, false, cond}
@@ -10,8 +9,7 @@ use lib.Ieee.{Float, nan, inf, fin, up, down, of_bits, lt, neg}
 use lib.Ieee.Fits.{down_pos}
 use Rattle.floats.specs.Floats.{abs_of}
 use Rattle.decoder_gains.specs.Gains.{power}
-use Rattle.decoder_record_q15.proofs.pll_q15.holds.Statement.{statement}
-use Rattle.decoder_record_q15.proofs.pll_q15.holds.Tie as tie
+use Rattle.decoder_record_q15.proofs.pll_q15.holds.Goals as goal
 
 -- one of the two tests is plain by the sign
 two_tests : (x : Float) → cond (lt x (power 63)) (lt (neg (power 63)) x) false ≡ lt (abs_of x) (power 63)
@@ -29,13 +27,10 @@ two_tests (fin true m e) = rw (lt-ltb 0 (m * up e * 1 + 2 ^ 63 * down e) (omega 
 by_test : {v w : Float} {t : Bool} → v ≡ w → lt v (power 63) ≡ t → cond t (lt (neg (power 63)) v) false ≡ lt (abs_of w) (power 63)
 by_test {v} e h = rw (← h, ← e) (two_tests v)
 
-returns : tie.Need-returns
+pub returns-then-v : goal.returns-then-v
 unfolding of_bits
-returns c = by_test c.before.floor-f64.ensures c.if1.true
+returns-then-v c = by_test c.floor_f64-v.ensures c.if-v.true
 
-returns-2 : tie.Need-returns-2
+pub returns-else-v : goal.returns-else-v
 unfolding of_bits
-returns-2 c = by_test c.before.floor-f64.ensures c.if1.false
-
-pub holds-spec : {M : Type 1} → statement M
-holds-spec = tie.close (tie.spec (λ c κs. search rules) returns returns-2)
+returns-else-v c = by_test c.floor_f64-v.ensures c.if-v.false

@@ -12,8 +12,8 @@ use mir.Val.{SFits, to_z, of_z}
 use mir.Facts.{to_z-of_z}
 use Rattle.rounding.proofs.Lin.{up, dn, add_law, sub_law', up_mul, dn_mul, shr_law, fit_in, fit_out, lt_yes, lt_no, le_yes, le_no, le_yes_in, le_no_in, shr_fits}
 use Rattle.decoder_record_q15.specs.Fit.{fits64, guard_of}
-use Rattle.decoder_record_q15.proofs.pll_q15.guard_fits.Statement.{statement}
-use Rattle.decoder_record_q15.proofs.pll_q15.guard_fits.Tie as tie
+use Rattle.decoder_record_q15.proofs.pll_q15.guard_fits.Goals.{Start}
+use Rattle.decoder_record_q15.proofs.pll_q15.guard_fits.Goals as goal
 
 abbrev TOP : ℤ
 TOP = pos 8589934591
@@ -71,20 +71,17 @@ module _ (gain imax : ℤ) where
     judged p = rw (to_z-of_z bottom-fits, h, y, guard-is, not-high (rw (to_z-of_z top-fits, h, y) at p), low (le_z (BOTTOM -ℤ q) gain) refl) (sym (and-true (le_z (BOTTOM -ℤ q) gain)))
 
 -- the upper part of imax, read back
-part-is : (c : tie.Start) → to_z w64 (of_z w64 (shr_z (to_z w64 (of_z w64 c.args.imax)) (2 ^ 30))) ≡ shr_z c.args.imax (2 ^ 30)
+part-is : (c : Start) → to_z w64 (of_z w64 (shr_z (to_z w64 (of_z w64 c.args.imax)) (2 ^ 30))) ≡ shr_z c.args.imax (2 ^ 30)
 part-is c = rw (to_z-of_z c.ranges.imax) (to_z-of_z (shr_fits (2 ^ 30) c.ranges.imax))
 
-sub-if1 : tie.Need-overflow-sub-if1
-sub-if1 c = top-fits c.args.gain c.args.imax c.ranges.imax (to_z-of_z c.ranges.gain) (part-is c)
+pub overflow_sub-high : goal.overflow_sub-high
+overflow_sub-high c = top-fits c.args.gain c.args.imax c.ranges.imax (to_z-of_z c.ranges.gain) (part-is c)
 
-returns : tie.Need-returns
-returns c = let s = c.before in refused s.args.gain s.args.imax s.ranges.imax (to_z-of_z s.ranges.gain) (part-is s) c.if1.true
+pub returns-then-gain-high : goal.returns-then-gain-high
+returns-then-gain-high c = let s = c.before in refused s.args.gain s.args.imax s.ranges.imax (to_z-of_z s.ranges.gain) (part-is s) c.if-gain-high.true
 
-sub-result : tie.Need-overflow-sub-result
-sub-result c = let s = c.before in bottom-fits s.args.gain s.args.imax s.ranges.imax (to_z-of_z s.ranges.gain) (part-is s)
+pub overflow_sub-result : goal.overflow_sub-result
+overflow_sub-result c = let s = c.before in bottom-fits s.args.gain s.args.imax s.ranges.imax (to_z-of_z s.ranges.gain) (part-is s)
 
-returns-2 : tie.Need-returns-2
-returns-2 c = let s = c.before in judged s.args.gain s.args.imax s.ranges.imax (to_z-of_z s.ranges.gain) (part-is s) c.if1.false
-
-pub guard-fits-spec : {M : Type 1} → statement M
-guard-fits-spec = tie.close (tie.spec sub-if1 returns sub-result returns-2)
+pub returns : goal.returns
+returns c = let s = c.before in judged s.args.gain s.args.imax s.ranges.imax (to_z-of_z s.ranges.gain) (part-is s) c.if-gain-high.false
