@@ -1,7 +1,8 @@
-// How many lines agreed, differed or could not be read. What these functions write is held to the
-// programs' files stdout. An error of the writer leaves the tally that was passed as it was.
-ghost use Rattle.std.specs.Prelude.{◌≡◌, true, IfOk, OnErr};
-ghost use Rattle.test_tally.specs.Tallies.{fresh_of, agreed_at, agree_of, differ_of, refuse_of, end_of, flawless, shown_at};
+// How many lines agreed, differed or could not be read, and what is written of them. An error comes
+// from the writer alone, and leaves the tally that was passed as it was.
+ghost use Rattle.std.specs.Prelude.{◌≡◌, true, IfOk, OnOk, OnErr};
+ghost use Rattle.test_tally.specs.Tallies.{fresh_of, agreed_at, agree_of, differ_of, refuse_of, end_of, flawless, shown_at, malformed_text, difference_text, count_text, sums_text, report_text};
+ghost use Rattle.std.specs.Io.KnownBytes.{Appends};
 ghost use Rattle.test_tally.specs.Tallies.{more as Tallies·more};
 
 use std::io;
@@ -58,8 +59,9 @@ fn shows(t: Tally) -> bool
     std::num::wrapping_add_u64(t.differed, t.malformed) < SHOWN
 }
 
-fn show_difference(out: &mut impl Write, t: Tally, line: &[u8], got: u64) -> io::Result<()>
-    ensures { OnErr result (shown_at t ≡ true) }
+fn show_difference<W: Write>(out: &mut W, t: Tally, line: &[u8], got: u64) -> io::Result<()>
+    ensures ok { OnOk result (Appends (W.contents out.old) (W.contents out.new) (difference_text t line.now got)) }
+    ensures err { OnErr result (shown_at t ≡ true) }
 {
     if shows(t) {
         out.write_all(b"differs: ")?;
@@ -69,9 +71,10 @@ fn show_difference(out: &mut impl Write, t: Tally, line: &[u8], got: u64) -> io:
     Ok(())
 }
 
-// Writes the line, where not too many were wrong before; only then can it fail.
-pub fn differ(out: &mut impl Write, t: Tally, line: &[u8], got: u64) -> io::Result<Tally>
+// Writes the line, if not too many were wrong before; only then can it fail.
+pub fn differ<W: Write>(out: &mut W, t: Tally, line: &[u8], got: u64) -> io::Result<Tally>
     ensures ok { IfOk result (λ next. next ≡ differ_of t) }
+    ensures written { OnOk result (Appends (W.contents out.old) (W.contents out.new) (difference_text t line.now got)) }
     ensures err { OnErr result (shown_at t ≡ true) }
 {
     show_difference(out, t, line, got)?;
@@ -80,8 +83,9 @@ pub fn differ(out: &mut impl Write, t: Tally, line: &[u8], got: u64) -> io::Resu
     Ok(next)
 }
 
-fn show_malformed(out: &mut impl Write, t: Tally, line: &[u8]) -> io::Result<()>
-    ensures { OnErr result (shown_at t ≡ true) }
+fn show_malformed<W: Write>(out: &mut W, t: Tally, line: &[u8]) -> io::Result<()>
+    ensures ok { OnOk result (Appends (W.contents out.old) (W.contents out.new) (malformed_text t line.now)) }
+    ensures err { OnErr result (shown_at t ≡ true) }
 {
     if shows(t) {
         out.write_all(b"malformed: ")?;
@@ -91,9 +95,10 @@ fn show_malformed(out: &mut impl Write, t: Tally, line: &[u8]) -> io::Result<()>
     Ok(())
 }
 
-// Writes the line, where not too many were wrong before; only then can it fail.
-pub fn refuse(out: &mut impl Write, t: Tally, line: &[u8]) -> io::Result<Tally>
+// Writes the line, if not too many were wrong before; only then can it fail.
+pub fn refuse<W: Write>(out: &mut W, t: Tally, line: &[u8]) -> io::Result<Tally>
     ensures ok { IfOk result (λ next. next ≡ refuse_of t) }
+    ensures written { OnOk result (Appends (W.contents out.old) (W.contents out.new) (malformed_text t line.now)) }
     ensures err { OnErr result (shown_at t ≡ true) }
 {
     show_malformed(out, t, line)?;
@@ -117,14 +122,17 @@ fn agreed(t: Tally, k: usize) -> u64
     if k < 32 { t.agreed[k] } else { 0 }
 }
 
-fn write_count(out: &mut impl Write, name: &[u8], n: u64) -> io::Result<()> {
+fn write_count<W: Write>(out: &mut W, name: &[u8], n: u64) -> io::Result<()>
+    ensures { OnOk result (Appends (W.contents out.old) (W.contents out.new) (count_text name.now n)) }
+{
     out.write_all(name)?;
     writeln!(out, " {n}")
 }
 
 // Writes the sums, and answers whether no line differed and none was malformed.
-pub fn report_all(out: &mut impl Write, t: Tally) -> io::Result<bool>
-    ensures { IfOk result (λ good. good ≡ flawless t) }
+pub fn report_all<W: Write>(out: &mut W, t: Tally) -> io::Result<bool>
+    ensures value { IfOk result (λ good. good ≡ flawless t) }
+    ensures written { OnOk result (Appends (W.contents out.old) (W.contents out.new) (sums_text t)) }
 {
     writeln!(
         out,
@@ -135,8 +143,9 @@ pub fn report_all(out: &mut impl Write, t: Tally) -> io::Result<bool>
 }
 
 // Writes the lines of all functions, whose names stand in 16 columns each, and the sums.
-pub fn report(out: &mut impl Write, t: Tally, names: &[u8]) -> io::Result<bool>
-    ensures { IfOk result (λ good. good ≡ flawless t) }
+pub fn report<W: Write>(out: &mut W, t: Tally, names: &[u8]) -> io::Result<bool>
+    ensures value { IfOk result (λ good. good ≡ flawless t) }
+    ensures written { OnOk result (Appends (W.contents out.old) (W.contents out.new) (report_text t names.now)) }
 {
     let count = names.len() / 16;
     for k in 0..count {
