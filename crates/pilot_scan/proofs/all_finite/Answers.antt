@@ -1,10 +1,6 @@
 use borrow.Author.Rules.{rules}
-use mathlib.Core.Path.{◌≡◌, refl}
-use Prim.Native.Nat.{◌≤◌, ◌-◌}
+use mathlib.Core.Path.{refl}
 use native.Mathlib.Omega.{arith}
-use mathlib.Core.Bool.{◌&&◌}
-use lib.ListN.{length, drop}
-use Rattle.decoder_parts.specs.Rules.{all_finite}
 use Rattle.pilot_scan.proofs.Finite.{all_next, all_end}
 use Rattle.pilot_scan.proofs.all_finite.Goals as goal
 

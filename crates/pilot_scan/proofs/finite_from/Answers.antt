@@ -2,7 +2,7 @@ use Prim.Native.Nat.{◌-◌}
 use mathlib.Core.Path.{sym, ◌∙◌}
 use native.Mathlib.Omega.{arith}
 use Rattle.answers.proofs.Tests.{passed_plain}
-use Rattle.pilot_scan.proofs.Loops.{FiniteFrom, from_end, from_start}
+use Rattle.pilot_scan.proofs.Loops.{from_end, from_start}
 use Rattle.pilot_scan.proofs.finite_from.Goals as goal
 
 pub loop-end-init : goal.loop-end-init
