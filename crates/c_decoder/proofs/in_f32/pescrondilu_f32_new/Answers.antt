@@ -9,3 +9,6 @@ use Rattle.c_decoder.proofs.in_f32.pescrondilu_f32_new.Goals as goal
 pub returns-in-Refused : goal.returns-in-Refused
 unfolding of_bits
 returns-in-Refused c = ap (coded_decoder nought) (rw c.in-Refused.is at c.new.ensures)
+
+pub overflow_add-result : goal.overflow_add-result
+overflow_add-result c = omega (arith, f32_below _ _ _ _ _ (rw c.in-Refused.is at c.new.ensures))
