@@ -1,51 +1,49 @@
 // What the cases write.
 use answers::answer::{Answer, code_of};
-use libc::STDOUT_FILENO;
+use std::io;
+use std::io::Write;
 
-pub(crate) fn label(text: &[u8]) {
-    io::write_all(STDOUT_FILENO, text);
+pub(crate) fn label(out: &mut impl Write, text: &str) -> io::Result<()> {
+    write!(out, "{text}")
 }
 
-pub(crate) fn number(n: u64) {
-    io::write_all(STDOUT_FILENO, b" ");
-    io::print_decimal(STDOUT_FILENO, n);
+pub(crate) fn number(out: &mut impl Write, n: u64) -> io::Result<()> {
+    write!(out, " {n}")
 }
 
 // A word in two's complement.
-fn twos(w: u64) {
+fn twos(out: &mut impl Write, w: u64) -> io::Result<()> {
     if w >= 9223372036854775808 {
-        io::write_all(STDOUT_FILENO, b" -");
-        io::print_decimal(STDOUT_FILENO, std::num::wrapping_sub_u64(0, w));
+        write!(out, " -{}", std::num::wrapping_sub_u64(0, w))
     } else {
-        number(w);
+        number(out, w)
     }
 }
 
-pub(crate) fn signed(z: i64) {
-    twos(test_words::words::word_i64(z));
+pub(crate) fn signed(out: &mut impl Write, z: i64) -> io::Result<()> {
+    twos(out, test_words::words::word_i64(z))
 }
 
-pub(crate) fn sample(x: i16) {
-    twos(test_words::words::word_i16(x));
+pub(crate) fn sample(out: &mut impl Write, x: i16) -> io::Result<()> {
+    twos(out, test_words::words::word_i16(x))
 }
 
-pub(crate) fn done() {
-    io::write_all(STDOUT_FILENO, b"\n");
+pub(crate) fn done(out: &mut impl Write) -> io::Result<()> {
+    writeln!(out)
 }
 
-pub(crate) fn refused(n: u32) {
-    io::write_all(STDOUT_FILENO, b" refused by");
-    number(n as u64);
+pub(crate) fn refused(out: &mut impl Write, n: u32) -> io::Result<()> {
+    write!(out, " refused by")?;
+    number(out, n as u64)
 }
 
 // A block's answer, with its lengths.
-pub(crate) fn said(a: Answer) {
+pub(crate) fn said(out: &mut impl Write, a: Answer) -> io::Result<()> {
     let c = code_of(a);
     if c.code == 0 {
-        io::write_all(STDOUT_FILENO, b" accepted");
-        return;
+        return write!(out, " accepted");
     }
-    refused(c.code % 100);
-    number(c.expected as u64);
-    number(c.got as u64);
+    refused(out, c.code % 100)?;
+    number(out, c.expected as u64)?;
+    number(out, c.got as u64)
 }

@@ -3,7 +3,10 @@
 // oracle/README.md says what a line holds and how the list was made.
 #![tactic(auto)]
 
-use libc::STDOUT_FILENO;
+use std::fs::File;
+use std::io;
+use std::io::{BufReader, BufWriter, Read, Write};
+use test_tally::tally::Tally;
 
 mod desk;
 mod judge;
@@ -14,31 +17,28 @@ mod session_f32;
 mod session_q15;
 mod words12;
 
-// A proved loop has to end, and nothing says that a file does: so the loop counts its turns down,
-// from a number that no run uses up.
-fn replay(fd: i32) -> test_tally::tally::Tally {
+// A proved loop has to end, and nothing says that a file does: so the loop has as many turns as no
+// run uses up.
+fn replay(list: &mut impl Read, out: &mut impl Write) -> io::Result<Tally> {
     let mut desk = desk::empty();
-    let mut turns = u64::MAX;
-    while turns > 0 {
-        desk = judge::next(fd, desk);
+    for _ in 0..u64::MAX {
+        desk = judge::next(list, out, desk)?;
         let t = desk.tally;
         if t.ended {
-            return t;
+            break;
         }
-        turns -= 1;
     }
-    desk.tally
+    Ok(desk.tally)
 }
 
-fn main() {
-    let path = b"decoder.txt";
-    let fd = os::open_read(path);
-    if fd < 0 {
-        os::fail(path);
-        io::write_all(STDOUT_FILENO, b"the list cannot be opened\n");
-        return;
+fn main(rt: HostRuntime) -> io::Result<()> {
+    let mut out = BufWriter::new(rt.alloc(), io::writer(&rt))?;
+    let opened = File::open(&rt, "decoder.txt");
+    if opened.is_err() {
+        out.write_all(b"the list cannot be opened\n")?;
     }
-    let t = replay(fd);
-    libc::close(fd);
-    test_tally::tally::report(t, &names::NAMES);
+    let mut list = BufReader::new(rt.alloc(), opened?)?;
+    let t = replay(&mut list, &mut out)?;
+    test_tally::tally::report(&mut out, t, &names::NAMES)?;
+    out.flush()
 }

@@ -1,4 +1,6 @@
-// What the programs share that replay a list of the original's answers: what a line holds.
+// What the programs share that replay a list of the original's answers: what a line holds, and how one
+// is read.
 #![tactic(auto)]
 
 pub mod line;
+pub mod list;

@@ -7,6 +7,8 @@ use decoder_record::pll_f32::StereoPllF32;
 use decoder_record_q15::pll_q15::StereoPllQ15;
 use rack::RoundF32;
 use rack_waiting::least;
+use std::io;
+use std::io::Write;
 
 // A rack in both formats.
 #[derive(Clone, Copy)]
@@ -38,13 +40,14 @@ fn end(from: usize, n: usize) -> usize
 }
 
 fn lent_f32(
+    out: &mut impl Write,
     decoders: [StereoPllF32; 8],
     text: &[u8],
     table: &[f32],
     mpxs: &[f32; 24],
     pilots: &[f32; 24],
     c: Asked,
-) -> RoundF32 {
+) -> io::Result<RoundF32> {
     let mpx: &[f32] = mpxs;
     let pilot: &[f32] = pilots;
     let mut sum = [-1.0f32; 24];
@@ -69,30 +72,37 @@ fn lent_f32(
     let said = r.answer;
     let counts = r.taken;
     let next = r.decoders;
-    show::said(said);
-    show::counts(b" taken", counts);
-    show::decoders_f32(next);
-    show::output_f32(b" sum", &sum);
-    show::output_f32(b" difference", &difference);
-    r
+    show::said(out, said)?;
+    show::counts(out, " taken", counts)?;
+    show::decoders_f32(out, next)?;
+    show::output_f32(out, " sum", &sum)?;
+    show::output_f32(out, " difference", &difference)?;
+    Ok(r)
 }
 
-fn run_f32(decoders: [StereoPllF32; 8], text: &[u8], ones: &[f32], c: Asked) -> RoundF32 {
+fn run_f32(
+    out: &mut impl Write,
+    decoders: [StereoPllF32; 8],
+    text: &[u8],
+    ones: &[f32],
+    c: Asked,
+) -> io::Result<RoundF32> {
     let mut mpx = [0.0f32; 24];
     let mut pilot = [0.0f32; 24];
     start::samples_f32(&mut mpx, &mut pilot);
     let n = least(c.table, ones.len());
-    lent_f32(decoders, text, &ones[0..n], &mpx, &pilot, c)
+    lent_f32(out, decoders, text, &ones[0..n], &mpx, &pilot, c)
 }
 
 fn lent_q15(
+    out: &mut impl Write,
     decoders: [StereoPllQ15; 8],
     text: &[u8],
     table: &[i16],
     mpxs: &[i16; 24],
     pilots: &[i16; 24],
     c: Asked,
-) -> [StereoPllQ15; 8] {
+) -> io::Result<[StereoPllQ15; 8]> {
     let mpx: &[i16] = mpxs;
     let pilot: &[i16] = pilots;
     let mut sum = [-1i16; 24];
@@ -117,60 +127,84 @@ fn lent_q15(
     let said = r.answer;
     let counts = r.taken;
     let next = r.decoders;
-    show::said(said);
-    show::counts(b" taken", counts);
-    show::decoders_q15(next);
-    show::output_q15(b" sum", &sum);
-    show::output_q15(b" difference", &difference);
-    next
+    show::said(out, said)?;
+    show::counts(out, " taken", counts)?;
+    show::decoders_q15(out, next)?;
+    show::output_q15(out, " sum", &sum)?;
+    show::output_q15(out, " difference", &difference)?;
+    Ok(next)
 }
 
-fn run_q15(decoders: [StereoPllQ15; 8], text: &[u8], tops: &[i16], c: Asked) -> [StereoPllQ15; 8] {
+fn run_q15(
+    out: &mut impl Write,
+    decoders: [StereoPllQ15; 8],
+    text: &[u8],
+    tops: &[i16],
+    c: Asked,
+) -> io::Result<[StereoPllQ15; 8]> {
     let mut mpx = [0i16; 24];
     let mut pilot = [0i16; 24];
     start::samples_q15(&mut mpx, &mut pilot);
     let n = least(c.table, tops.len());
-    lent_q15(decoders, text, &tops[0..n], &mpx, &pilot, c)
+    lent_q15(out, decoders, text, &tops[0..n], &mpx, &pilot, c)
 }
 
 // A line for each format; the text says what waits.
-pub(crate) fn run(b: Both, name: &[u8], text: &[u8], ones: &[f32], tops: &[i16], c: Asked) -> Both {
+pub(crate) fn run(
+    out: &mut impl Write,
+    b: Both,
+    name: &str,
+    text: &[u8],
+    ones: &[f32],
+    tops: &[i16],
+    c: Asked,
+) -> io::Result<Both> {
     let d = b.f;
     let e = b.q;
-    show::label(name);
-    show::label(b" f32");
-    let r = run_f32(d, text, ones, c);
+    show::label(out, name)?;
+    show::label(out, " f32")?;
+    let r = run_f32(out, d, text, ones, c)?;
     let f = r.decoders;
-    show::label(b"\n");
-    show::label(name);
-    show::label(b" Q15");
-    let q = run_q15(e, text, tops, c);
-    show::label(b"\n");
-    Both { f, q }
+    show::label(out, "\n")?;
+    show::label(out, name)?;
+    show::label(out, " Q15")?;
+    let q = run_q15(out, e, text, tops, c)?;
+    show::label(out, "\n")?;
+    Ok(Both { f, q })
 }
 
 // A line for f32 alone, which ends with how many corrections of each decoder took the wide way.
 pub(crate) fn count(
+    out: &mut impl Write,
     decoders: [StereoPllF32; 8],
-    name: &[u8],
+    name: &str,
     text: &[u8],
     ones: &[f32],
     c: Asked,
-) -> [StereoPllF32; 8] {
-    show::label(name);
-    show::label(b" f32");
-    let r = run_f32(decoders, text, ones, c);
+) -> io::Result<[StereoPllF32; 8]> {
+    show::label(out, name)?;
+    show::label(out, " f32")?;
+    let r = run_f32(out, decoders, text, ones, c)?;
     let wide = r.wide;
-    show::counts(b" wide", wide);
-    show::label(b"\n");
-    r.decoders
+    show::counts(out, " wide", wide)?;
+    show::label(out, "\n")?;
+    Ok(r.decoders)
 }
 
 // The first round of a rack, whose decoders with a u are unfit.
-pub(crate) fn first(name: &[u8], marks: &[u8], text: &[u8], ones: &[f32], tops: &[i16], c: Asked) {
+pub(crate) fn first(
+    out: &mut impl Write,
+    name: &str,
+    marks: &[u8],
+    text: &[u8],
+    ones: &[f32],
+    tops: &[i16],
+    c: Asked,
+) -> io::Result<()> {
     let b = Both {
         f: start::rack_f32(b""),
         q: start::rack_q15(marks),
     };
-    run(b, name, text, ones, tops, c);
+    run(out, b, name, text, ones, tops, c)?;
+    Ok(())
 }

@@ -2,119 +2,119 @@
 use answers::answer::{Answer, code_of};
 use decoder_record::pll_f32::StereoPllF32;
 use decoder_record_q15::pll_q15::StereoPllQ15;
-use libc::STDOUT_FILENO;
+use std::io;
+use std::io::Write;
 
-pub(crate) fn label(text: &[u8]) {
-    io::write_all(STDOUT_FILENO, text);
+pub(crate) fn label(out: &mut impl Write, text: &str) -> io::Result<()> {
+    write!(out, "{text}")
 }
 
-fn number(n: u64) {
-    io::write_all(STDOUT_FILENO, b" ");
-    io::print_decimal(STDOUT_FILENO, n);
+fn number(out: &mut impl Write, n: u64) -> io::Result<()> {
+    write!(out, " {n}")
 }
 
 // A round's answer, with its lengths.
-pub(crate) fn said(a: Answer) {
+pub(crate) fn said(out: &mut impl Write, a: Answer) -> io::Result<()> {
     let c = code_of(a);
     if c.code == 0 {
-        io::write_all(STDOUT_FILENO, b": accepted");
-        return;
+        return write!(out, ": accepted");
     }
-    io::write_all(STDOUT_FILENO, b": refused by");
-    number((c.code % 100) as u64);
-    number(c.expected as u64);
-    number(c.got as u64);
+    write!(out, ": refused by")?;
+    number(out, (c.code % 100) as u64)?;
+    number(out, c.expected as u64)?;
+    number(out, c.got as u64)
 }
 
 // One number for each decoder.
-pub(crate) fn counts(name: &[u8], all: [usize; 8]) {
-    label(name);
+pub(crate) fn counts(out: &mut impl Write, name: &str, all: [usize; 8]) -> io::Result<()> {
+    label(out, name)?;
     let mut k = 0usize;
     while k < 8 {
-        number(all[k] as u64);
+        number(out, all[k] as u64)?;
         k += 1;
     }
+    Ok(())
 }
 
 // Phase and level of each decoder, the level as 0 where the last pilot was low, 1 where it was high, and as a
 // dot where no sample was worked.
-pub(crate) fn decoders_f32(all: [StereoPllF32; 8]) {
-    label(b" decoders");
+pub(crate) fn decoders_f32(out: &mut impl Write, all: [StereoPllF32; 8]) -> io::Result<()> {
+    label(out, " decoders")?;
     let mut k = 0usize;
     while k < 8 {
         let d = all[k];
-        number(d.phase as u64);
-        level_f32(d.level);
+        number(out, d.phase as u64)?;
+        level_f32(out, d.level)?;
         k += 1;
     }
+    Ok(())
 }
 
-fn level_f32(level: f32) {
+fn level_f32(out: &mut impl Write, level: f32) -> io::Result<()> {
     if level == 0.25 {
-        label(b".");
+        label(out, ".")
     } else {
-        high(level == 1.0);
+        high(out, level == 1.0)
     }
 }
 
-fn high(is: bool) {
-    if is {
-        label(b"s");
-    } else {
-        label(b"m");
-    }
+fn high(out: &mut impl Write, is: bool) -> io::Result<()> {
+    if is { label(out, "s") } else { label(out, "m") }
 }
 
-pub(crate) fn decoders_q15(all: [StereoPllQ15; 8]) {
-    label(b" decoders");
+pub(crate) fn decoders_q15(out: &mut impl Write, all: [StereoPllQ15; 8]) -> io::Result<()> {
+    label(out, " decoders")?;
     let mut k = 0usize;
     while k < 8 {
         let d = all[k];
-        number(d.phase as u64);
-        level_q15(d.level);
+        number(out, d.phase as u64)?;
+        level_q15(out, d.level)?;
         k += 1;
     }
+    Ok(())
 }
 
-fn level_q15(level: i64) {
+fn level_q15(out: &mut impl Write, level: i64) -> io::Result<()> {
     if level == 1099511627776 {
-        label(b".");
+        label(out, ".")
     } else {
-        high(level > 1099511627776);
+        high(out, level > 1099511627776)
     }
 }
 
 // An output: a dot at each place that still holds -1, which no case writes.
-pub(crate) fn output_f32(name: &[u8], x: &[f32; 24]) {
-    label(name);
+pub(crate) fn output_f32(out: &mut impl Write, name: &str, x: &[f32; 24]) -> io::Result<()> {
+    label(out, name)?;
     let mut i = 0usize;
     while i < 24 {
-        place_f32(x[i]);
+        place_f32(out, x[i])?;
         i += 1;
     }
+    Ok(())
 }
 
-fn place_f32(x: f32) {
+fn place_f32(out: &mut impl Write, x: f32) -> io::Result<()> {
     if x == -1.0 {
-        label(b" .");
+        label(out, " .")
     } else {
-        number(test_words::words::word_f32(x));
+        number(out, test_words::words::word_f32(x))
     }
 }
 
-pub(crate) fn output_q15(name: &[u8], x: &[i16; 24]) {
-    label(name);
+pub(crate) fn output_q15(out: &mut impl Write, name: &str, x: &[i16; 24]) -> io::Result<()> {
+    label(out, name)?;
     let mut i = 0usize;
     while i < 24 {
-        place_q15(x[i]);
+        place_q15(out, x[i])?;
         i += 1;
     }
+    Ok(())
 }
 
-fn place_q15(x: i16) {
+fn place_q15(out: &mut impl Write, x: i16) -> io::Result<()> {
     if x == -1 {
-        label(b" .");
+        label(out, " .")
     } else {
-        number(test_words::words::word_i16(x));
+        number(out, test_words::words::word_i16(x))
     }
 }

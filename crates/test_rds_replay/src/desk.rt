@@ -3,6 +3,8 @@ use crate::answer::{Answers, Called};
 use crate::line::{Case, Read};
 use crate::names;
 use rds::former::RdsFormer;
+use std::io;
+use std::io::Write;
 use test_tally::tally;
 use test_tally::tally::Tally;
 
@@ -44,15 +46,15 @@ fn difference(a: Answers, b: Answers) -> u64 {
         | (a.left ^ b.left)
 }
 
-fn judge(d: Desk, line: &[u8; 136]) -> Desk {
+fn judge(out: &mut impl Write, d: Desk, line: &[u8; 136]) -> io::Result<Desk> {
     let t = d.tally;
     let former = d.former;
     let read = crate::line::parse(line);
     match read {
-        Read::Malformed => Desk {
-            tally: tally::refuse(t, line),
+        Read::Malformed => Ok(Desk {
+            tally: tally::refuse(out, t, line)?,
             former,
-        },
+        }),
         Read::Case(case) => {
             let c = called(former, case);
             let next = c.former;
@@ -60,34 +62,34 @@ fn judge(d: Desk, line: &[u8; 136]) -> Desk {
             let wanted = case.answers;
             let unlike = difference(wanted, came);
             if unlike == 0 {
-                Desk {
+                Ok(Desk {
                     tally: tally::agree(t, case.function),
                     former: next,
-                }
+                })
             } else {
-                Desk {
-                    tally: tally::differ(t, line, unlike),
+                Ok(Desk {
+                    tally: tally::differ(out, t, line, unlike)?,
                     former: next,
-                }
+                })
             }
         }
     }
 }
 
 // Reads a line and judges it. A line that the file cuts short is malformed.
-pub(crate) fn next(fd: i32, d: Desk) -> Desk {
+pub(crate) fn next(list: &mut impl io::Read, out: &mut impl Write, d: Desk) -> io::Result<Desk> {
     let mut line = [b' '; 136];
-    let n = io::read_full(fd, &mut line);
+    let n = test_lines::list::read_full(list, &mut line)?;
     if n == 136 {
-        return judge(d, &line);
+        return judge(out, d, &line);
     }
     let former = d.former;
     let mut t = d.tally;
     if n > 0 {
-        t = tally::refuse(t, &line);
+        t = tally::refuse(out, t, &line)?;
     }
-    Desk {
+    Ok(Desk {
         tally: tally::end(t),
         former,
-    }
+    })
 }

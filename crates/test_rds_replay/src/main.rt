@@ -3,7 +3,9 @@
 // oracle/README.md says what a line holds and how the list was made.
 #![tactic(auto)]
 
-use libc::STDOUT_FILENO;
+use std::fs::File;
+use std::io;
+use std::io::{BufReader, BufWriter, Read, Write};
 
 mod answer;
 mod desk;
@@ -11,33 +13,30 @@ mod line;
 mod matrix;
 mod names;
 
-// A proved loop has to end, and nothing says that a file does: so the loop counts its turns down,
-// from a number that no run uses up.
-fn replay(fd: i32) -> desk::Desk {
+// A proved loop has to end, and nothing says that a file does: so the loop has as many turns as no
+// run uses up.
+fn replay(list: &mut impl Read, out: &mut impl Write) -> io::Result<desk::Desk> {
     let mut d = desk::fresh();
-    let mut turns = u64::MAX;
-    while turns > 0 {
-        d = desk::next(fd, d);
+    for _ in 0..u64::MAX {
+        d = desk::next(list, out, d)?;
         let t = d.tally;
         if t.ended {
-            return d;
+            break;
         }
-        turns -= 1;
     }
-    d
+    Ok(d)
 }
 
-fn main() {
-    matrix::run();
-    let path = b"rds.txt";
-    let fd = os::open_read(path);
-    if fd < 0 {
-        os::fail(path);
-        io::write_all(STDOUT_FILENO, b"the list cannot be opened\n");
-        return;
+fn main(rt: HostRuntime) -> io::Result<()> {
+    let mut out = BufWriter::new(rt.alloc(), io::writer(&rt))?;
+    matrix::run(&mut out)?;
+    let opened = File::open(&rt, "rds.txt");
+    if opened.is_err() {
+        out.write_all(b"the list cannot be opened\n")?;
     }
-    let d = replay(fd);
+    let mut list = BufReader::new(rt.alloc(), opened?)?;
+    let d = replay(&mut list, &mut out)?;
     let t = d.tally;
-    test_tally::tally::report(t, &names::NAMES);
-    libc::close(fd);
+    test_tally::tally::report(&mut out, t, &names::NAMES)?;
+    out.flush()
 }

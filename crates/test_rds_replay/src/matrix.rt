@@ -1,5 +1,6 @@
 // The check of every word, beside the standard's generator matrix.
-use libc::STDOUT_FILENO;
+use std::io;
+use std::io::Write;
 
 // The matrix's rows for the bits of a word, from bit 15 down to bit 0.
 const ROWS: [u32; 16] = [
@@ -30,8 +31,10 @@ fn agreeing() -> u32 {
     n
 }
 
-pub(crate) fn run() {
-    io::write_all(STDOUT_FILENO, b"checks as by the generator matrix: ");
-    io::print_decimal(STDOUT_FILENO, agreeing() as u64);
-    io::write_all(STDOUT_FILENO, b" of 65536\n");
+pub(crate) fn run(out: &mut impl Write) -> io::Result<()> {
+    writeln!(
+        out,
+        "checks as by the generator matrix: {} of 65536",
+        agreeing()
+    )
 }

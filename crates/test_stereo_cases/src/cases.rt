@@ -4,95 +4,118 @@ use crate::write::{done, line, number, refusal};
 use encoder_record::encode::{NewEncode, SetEncode, StereoEncode};
 use encoder_record_rds::rds::{NewEncodeRds, SetEncodeRds, StereoEncodeRds};
 use oscillator::nco::{Increment, Nco, NewNco, SetNco};
+use std::io;
+use std::io::Write;
 use test_words::words::f32_of;
 
-fn increment(name: &[u8], freq: f64, rate: f64) {
-    line(name);
+fn increment(out: &mut impl Write, name: &str, freq: f64, rate: f64) -> io::Result<()> {
+    line(out, name)?;
     match oscillator::nco::increment_for(freq, rate) {
-        Increment::Made(inc) => number(inc as u64),
-        Increment::Refused(n) => refusal(n),
+        Increment::Made(inc) => number(out, inc as u64)?,
+        Increment::Refused(n) => refusal(out, n)?,
     }
-    done();
+    done(out)
 }
 
-fn new_oscillator(freq: f64, rate: f64) {
+fn new_oscillator(out: &mut impl Write, freq: f64, rate: f64) -> io::Result<()> {
     match Nco::new(freq, rate) {
-        NewNco::Made(o) => number(o.inc as u64),
-        NewNco::Refused(n) => refusal(n),
+        NewNco::Made(o) => number(out, o.inc as u64),
+        NewNco::Refused(n) => refusal(out, n),
     }
 }
 
-fn state(o: Nco) {
-    number(o.phase as u64);
-    number(o.inc as u64);
+fn state(out: &mut impl Write, o: Nco) -> io::Result<()> {
+    number(out, o.phase as u64)?;
+    number(out, o.inc as u64)
 }
 
 // Another frequency for an oscillator that stands at phase 5 with the increment 7.
-fn old_oscillator(freq: f64, rate: f64) {
+fn old_oscillator(out: &mut impl Write, freq: f64, rate: f64) -> io::Result<()> {
     let old = Nco { phase: 5, inc: 7 };
     match old.set_frequency(freq, rate) {
-        SetNco::Done(o) => state(o),
+        SetNco::Done(o) => state(out, o),
         SetNco::Refused(n, o) => {
-            refusal(n);
-            state(o);
+            refusal(out, n)?;
+            state(out, o)
         }
     }
 }
 
-fn oscillator(name: &[u8], freq: f64, rate: f64) {
-    line(name);
-    new_oscillator(freq, rate);
-    old_oscillator(freq, rate);
-    done();
+fn oscillator(out: &mut impl Write, name: &str, freq: f64, rate: f64) -> io::Result<()> {
+    line(out, name)?;
+    new_oscillator(out, freq, rate)?;
+    old_oscillator(out, freq, rate)?;
+    done(out)
 }
 
-fn new_encoder(frequency: f64, main: f32, pilot: f32, rate: f64) {
+fn new_encoder(
+    out: &mut impl Write,
+    frequency: f64,
+    main: f32,
+    pilot: f32,
+    rate: f64,
+) -> io::Result<()> {
     match StereoEncode::new(frequency, main, pilot, rate) {
-        NewEncode::Made(e) => number(e.nco.inc as u64),
-        NewEncode::Refused(n) => refusal(n),
+        NewEncode::Made(e) => number(out, e.nco.inc as u64),
+        NewEncode::Refused(n) => refusal(out, n),
     }
 }
 
-fn new_encoder_rds(frequency: f64, main: f32, pilot: f32, rds: f32, rate: f64) {
+fn new_encoder_rds(
+    out: &mut impl Write,
+    frequency: f64,
+    main: f32,
+    pilot: f32,
+    rds: f32,
+    rate: f64,
+) -> io::Result<()> {
     match StereoEncodeRds::new(frequency, main, pilot, rds, rate) {
-        NewEncodeRds::Made(e) => number(e.enc.nco.inc as u64),
-        NewEncodeRds::Refused(n) => refusal(n),
+        NewEncodeRds::Made(e) => number(out, e.enc.nco.inc as u64),
+        NewEncodeRds::Refused(n) => refusal(out, n),
     }
 }
 
 // Both constructors.
-fn construct(name: &[u8], frequency: f64, main: f32, pilot: f32, rds: f32, rate: f64) {
-    line(name);
-    new_encoder(frequency, main, pilot, rate);
-    new_encoder_rds(frequency, main, pilot, rds, rate);
-    done();
+fn construct(
+    out: &mut impl Write,
+    name: &str,
+    frequency: f64,
+    main: f32,
+    pilot: f32,
+    rds: f32,
+    rate: f64,
+) -> io::Result<()> {
+    line(out, name)?;
+    new_encoder(out, frequency, main, pilot, rate)?;
+    new_encoder_rds(out, frequency, main, pilot, rds, rate)?;
+    done(out)
 }
 
-fn level(x: f32) {
-    number(test_words::words::word_f32(x));
+fn level(out: &mut impl Write, x: f32) -> io::Result<()> {
+    number(out, test_words::words::word_f32(x))
 }
 
 // Both setters, on an encoder whose amplitude and level are 0.125; the level after each follows
 // as a pattern.
-fn set(name: &[u8], to: f32) {
-    line(name);
+fn set(out: &mut impl Write, name: &str, to: f32) -> io::Result<()> {
+    line(out, name)?;
     let enc = an_encoder();
     match enc.set_pilot(to) {
-        SetEncode::Done(e) => level(e.pilot),
+        SetEncode::Done(e) => level(out, e.pilot)?,
         SetEncode::Refused(n, e) => {
-            refusal(n);
-            level(e.pilot);
+            refusal(out, n)?;
+            level(out, e.pilot)?;
         }
     }
     let with_rds = StereoEncodeRds { enc, rds: 0.125 };
     match with_rds.set_rds(to) {
-        SetEncodeRds::Done(e) => level(e.rds),
+        SetEncodeRds::Done(e) => level(out, e.rds)?,
         SetEncodeRds::Refused(n, e) => {
-            refusal(n);
-            level(e.rds);
+            refusal(out, n)?;
+            level(out, e.rds)?;
         }
     }
-    done();
+    done(out)
 }
 
 // An encoder at phase 1 with the increment 2.
@@ -104,132 +127,161 @@ pub(crate) fn an_encoder() -> StereoEncode {
     }
 }
 
-fn increments() {
-    increment(b"cycles -0.25:", -0.25, 1.0);
-    increment(b"cycles 1/2^33:", 1.0, 8589934592.0);
-    increment(b"cycles 3/2^33:", 3.0, 8589934592.0);
-    increment(b"cycles 5/2^33:", 5.0, 8589934592.0);
+fn increments(out: &mut impl Write) -> io::Result<()> {
+    increment(out, "cycles -0.25:", -0.25, 1.0)?;
+    increment(out, "cycles 1/2^33:", 1.0, 8589934592.0)?;
+    increment(out, "cycles 3/2^33:", 3.0, 8589934592.0)?;
+    increment(out, "cycles 5/2^33:", 5.0, 8589934592.0)
 }
 
-fn oscillators() {
-    oscillator(b"oscillator, rate 0:", 1.0, 0.0);
-    oscillator(b"oscillator, rate NaN:", 1.0, 0.0 / 0.0);
-    oscillator(b"oscillator, frequency infinite:", 1.0 / 0.0, 1.0);
-    oscillator(b"oscillator, a quarter:", 1.0, 4.0);
+fn oscillators(out: &mut impl Write) -> io::Result<()> {
+    oscillator(out, "oscillator, rate 0:", 1.0, 0.0)?;
+    oscillator(out, "oscillator, rate NaN:", 1.0, 0.0 / 0.0)?;
+    oscillator(out, "oscillator, frequency infinite:", 1.0 / 0.0, 1.0)?;
+    oscillator(out, "oscillator, a quarter:", 1.0, 4.0)
 }
 
 // The calls of an oscillator that are never turned back.
-fn oscillator_calls() {
-    line(b"oscillator, calls:");
+fn oscillator_calls(out: &mut impl Write) -> io::Result<()> {
+    line(out, "oscillator, calls:")?;
     let o = Nco::from_increment(7);
-    state(o);
+    state(out, o)?;
     let p = o.set_phase(4294967290);
-    number(p.phase() as u64);
-    number(p.increment() as u64);
-    state(p.advance(3));
-    state(p.reset());
-    done();
+    number(out, p.phase() as u64)?;
+    number(out, p.increment() as u64)?;
+    state(out, p.advance(3))?;
+    state(out, p.reset())?;
+    done(out)
 }
 
 // The same of an encoder, and what it answers of its levels.
-fn encoder_calls() {
-    line(b"encoder, calls:");
+fn encoder_calls(out: &mut impl Write) -> io::Result<()> {
+    line(out, "encoder, calls:")?;
     let e = an_encoder();
-    number(e.phase() as u64);
-    number(e.increment() as u64);
-    level(e.main());
-    level(e.pilot());
+    number(out, e.phase() as u64)?;
+    number(out, e.increment() as u64)?;
+    level(out, e.main())?;
+    level(out, e.pilot())?;
     let p = e.set_phase(9);
-    state(p.nco);
+    state(out, p.nco)?;
     let r = e.reset();
-    state(r.nco);
-    done();
+    state(out, r.nco)?;
+    done(out)
 }
 
-fn encoder_rds_calls() {
-    line(b"encoder with RDS, calls:");
+fn encoder_rds_calls(out: &mut impl Write) -> io::Result<()> {
+    line(out, "encoder with RDS, calls:")?;
     let e = StereoEncodeRds {
         enc: an_encoder(),
         rds: 0.0625,
     };
-    number(e.phase() as u64);
-    number(e.increment() as u64);
-    level(e.main());
-    level(e.pilot());
-    level(e.rds());
+    number(out, e.phase() as u64)?;
+    number(out, e.increment() as u64)?;
+    level(out, e.main())?;
+    level(out, e.pilot())?;
+    level(out, e.rds())?;
     let p = e.set_phase(9);
-    state(p.encoder().nco);
+    state(out, p.encoder().nco)?;
     let r = e.reset();
-    state(r.enc.nco);
-    done();
+    state(out, r.enc.nco)?;
+    done(out)
 }
 
-fn constructions() {
-    construct(b"encoder:", 19000.0, 0.9, 0.09, 0.04, 192000.0);
-    construct(b"encoder, rate -1:", 19000.0, 0.9, 0.09, 0.04, -1.0);
+fn constructions(out: &mut impl Write) -> io::Result<()> {
+    construct(out, "encoder:", 19000.0, 0.9, 0.09, 0.04, 192000.0)?;
+    construct(out, "encoder, rate -1:", 19000.0, 0.9, 0.09, 0.04, -1.0)?;
     construct(
-        b"encoder, frequency 17999:",
+        out,
+        "encoder, frequency 17999:",
         17999.0,
         0.9,
         0.09,
         0.04,
         192000.0,
-    );
-    construct(b"encoder, gain 1.5:", 19000.0, 1.5, 0.09, 0.04, 192000.0);
+    )?;
     construct(
-        b"encoder, amplitude 0.2:",
+        out,
+        "encoder, gain 1.5:",
+        19000.0,
+        1.5,
+        0.09,
+        0.04,
+        192000.0,
+    )?;
+    construct(
+        out,
+        "encoder, amplitude 0.2:",
         19000.0,
         0.9,
         0.2,
         0.04,
         192000.0,
-    );
+    )
 }
 
-fn further_constructions() {
+fn further_constructions(out: &mut impl Write) -> io::Result<()> {
     construct(
-        b"encoder, amplitude above 0.2:",
+        out,
+        "encoder, amplitude above 0.2:",
         19000.0,
         0.9,
         f32_of(0x3E4C_CCCE),
         0.04,
         192000.0,
-    );
-    construct(b"encoder, rate 119999:", 19000.0, 0.9, 0.09, 0.04, 119999.0);
+    )?;
     construct(
-        b"encoder, RDS level 0.2:",
+        out,
+        "encoder, rate 119999:",
+        19000.0,
+        0.9,
+        0.09,
+        0.04,
+        119999.0,
+    )?;
+    construct(
+        out,
+        "encoder, RDS level 0.2:",
         19000.0,
         0.9,
         0.09,
         0.2,
         192000.0,
-    );
+    )?;
     construct(
-        b"encoder, RDS level above 0.2:",
+        out,
+        "encoder, RDS level above 0.2:",
         19000.0,
         0.9,
         0.09,
         f32_of(0x3E4C_CCCE),
         192000.0,
-    );
-    construct(b"encoder, all at fault:", 1.0, 2.0, 2.0, 2.0, 0.0);
-    construct(b"encoder, all but the rate:", 1.0, 2.0, 2.0, 2.0, 96000.0);
+    )?;
+    construct(out, "encoder, all at fault:", 1.0, 2.0, 2.0, 2.0, 0.0)?;
+    construct(
+        out,
+        "encoder, all but the rate:",
+        1.0,
+        2.0,
+        2.0,
+        2.0,
+        96000.0,
+    )
 }
 
-fn sets() {
-    set(b"set to 0.2:", 0.2);
-    set(b"set to the next f32:", f32_of(0x3E4C_CCCE));
-    set(b"set to -0:", -0.0);
-    set(b"set to NaN:", 0.0 / 0.0);
+fn sets(out: &mut impl Write) -> io::Result<()> {
+    set(out, "set to 0.2:", 0.2)?;
+    set(out, "set to the next f32:", f32_of(0x3E4C_CCCE))?;
+    set(out, "set to -0:", -0.0)?;
+    set(out, "set to NaN:", 0.0 / 0.0)
 }
 
-pub(crate) fn run() {
-    increments();
-    oscillators();
-    oscillator_calls();
-    constructions();
-    further_constructions();
-    sets();
-    encoder_calls();
-    encoder_rds_calls();
+pub(crate) fn run(out: &mut impl Write) -> io::Result<()> {
+    increments(out)?;
+    oscillators(out)?;
+    oscillator_calls(out)?;
+    constructions(out)?;
+    further_constructions(out)?;
+    sets(out)?;
+    encoder_calls(out)?;
+    encoder_rds_calls(out)
 }

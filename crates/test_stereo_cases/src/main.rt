@@ -2,12 +2,17 @@
 // these calls. What each has to write stands in the file stdout; it was worked out from the document.
 #![tactic(auto)]
 
+use std::io;
+use std::io::{BufWriter, Write};
+
 mod cases;
 mod lengths;
 mod write;
 
-fn main() {
-    cases::run();
+fn main(rt: HostRuntime) -> io::Result<()> {
+    let mut out = BufWriter::new(rt.alloc(), io::writer(&rt))?;
+    cases::run(&mut out)?;
     let cos = [1.0f32; 4097];
-    lengths::run(&cos);
+    lengths::run(&mut out, &cos)?;
+    out.flush()
 }

@@ -1,20 +1,20 @@
 // A line of the cases, piece by piece.
-use libc::STDOUT_FILENO;
+use std::io;
+use std::io::Write;
 
-pub(crate) fn number(n: u64) {
-    io::write_all(STDOUT_FILENO, b" ");
-    io::print_decimal(STDOUT_FILENO, n);
+pub(crate) fn number(out: &mut impl Write, n: u64) -> io::Result<()> {
+    write!(out, " {n}")
 }
 
-pub(crate) fn line(name: &[u8]) {
-    io::write_all(STDOUT_FILENO, name);
+pub(crate) fn line(out: &mut impl Write, name: &str) -> io::Result<()> {
+    write!(out, "{name}")
 }
 
-pub(crate) fn done() {
-    io::write_all(STDOUT_FILENO, b"\n");
+pub(crate) fn done(out: &mut impl Write) -> io::Result<()> {
+    writeln!(out)
 }
 
-pub(crate) fn refusal(n: u32) {
-    io::write_all(STDOUT_FILENO, b" refused by");
-    number(n as u64);
+pub(crate) fn refusal(out: &mut impl Write, n: u32) -> io::Result<()> {
+    write!(out, " refused by")?;
+    number(out, n as u64)
 }

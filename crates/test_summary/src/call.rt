@@ -4,6 +4,8 @@ ghost use Rattle.std.specs.Prelude.{◌≤◌, length};
 
 use crate::show;
 use counted::answer_of;
+use std::io;
+use std::io::Write;
 use summary::SummarizedF32;
 use summary_q15::SummarizedQ15;
 use test_words::words::f32_of;
@@ -95,61 +97,77 @@ fn fill_q15(script: &[u8], pilot: &mut [i16; 7], mpx: &mut [i16; 7]) {
     }
 }
 
-fn left_f32(r: SummarizedF32) {
+fn left_f32(out: &mut impl Write, r: SummarizedF32) -> io::Result<()> {
     let a = r.answer;
-    show::said(answer_of(a));
+    show::said(out, answer_of(a))?;
     let d = r.decoder;
-    show::label(b" decoder");
-    show::count(d.phase);
-    show::pattern(d.integ);
-    show::pattern(d.level);
-    show::yes(d.stereo);
+    show::label(out, b" decoder")?;
+    show::count(out, d.phase)?;
+    show::pattern(out, d.integ)?;
+    show::pattern(out, d.level)?;
+    show::yes(out, d.stereo)?;
     let c = r.summary.counts;
-    show::held(c);
-    show::pattern(r.summary.magnitude);
+    show::held(out, c)?;
+    show::pattern(out, r.summary.magnitude)
 }
 
-fn left_q15(r: SummarizedQ15) {
+fn left_q15(out: &mut impl Write, r: SummarizedQ15) -> io::Result<()> {
     let a = r.answer;
-    show::said(a);
+    show::said(out, a)?;
     let d = r.decoder;
-    show::label(b" decoder");
-    show::count(d.phase);
-    show::signed(d.integ);
-    show::signed(d.level);
-    show::yes(d.stereo);
+    show::label(out, b" decoder")?;
+    show::count(out, d.phase)?;
+    show::signed(out, d.integ)?;
+    show::signed(out, d.level)?;
+    show::yes(out, d.stereo)?;
     let c = r.summary.counts;
-    show::held(c);
-    show::sample(r.summary.magnitude);
+    show::held(out, c)?;
+    show::sample(out, r.summary.magnitude)
 }
 
-fn columns(stereos: &[u32; 7], monos: &[u32; 7], changes: &[u32; 7]) {
-    show::numbers(b" stereo", stereos);
-    show::numbers(b" mono", monos);
-    show::numbers(b" changes", changes);
+fn columns(
+    out: &mut impl Write,
+    stereos: &[u32; 7],
+    monos: &[u32; 7],
+    changes: &[u32; 7],
+) -> io::Result<()> {
+    show::numbers(out, b" stereo", stereos)?;
+    show::numbers(out, b" mono", monos)?;
+    show::numbers(out, b" changes", changes)
 }
 
-fn outputs_f32(magnitudes: &[f32; 7], sum: &[f32; 7], difference: &[f32; 7]) {
-    show::patterns(b" magnitude", magnitudes);
-    show::patterns(b" sum", sum);
-    show::patterns(b" difference", difference);
+fn outputs_f32(
+    out: &mut impl Write,
+    magnitudes: &[f32; 7],
+    sum: &[f32; 7],
+    difference: &[f32; 7],
+) -> io::Result<()> {
+    show::patterns(out, b" magnitude", magnitudes)?;
+    show::patterns(out, b" sum", sum)?;
+    show::patterns(out, b" difference", difference)
 }
 
-fn outputs_q15(magnitudes: &[i16; 7], sum: &[i16; 7], difference: &[i16; 7]) {
-    show::samples(b" magnitude", magnitudes);
-    show::samples(b" sum", sum);
-    show::samples(b" difference", difference);
+fn outputs_q15(
+    out: &mut impl Write,
+    magnitudes: &[i16; 7],
+    sum: &[i16; 7],
+    difference: &[i16; 7],
+) -> io::Result<()> {
+    show::samples(out, b" magnitude", magnitudes)?;
+    show::samples(out, b" sum", sum)?;
+    show::samples(out, b" difference", difference)
 }
 
 // A block of n samples, with the other lengths as they are given.
 fn lent_f32(
+    out: &mut impl Write,
     r: SummarizedF32,
     table: &[f32],
     pilots: &[f32; 7],
     mpxs: &[f32; 7],
     n: usize,
     l: Lengths,
-) -> SummarizedF32
+) -> io::Result<SummarizedF32>
     requires { ((n ≤ 7) × (l.pilot ≤ 7) × (l.sum ≤ 7) × (l.difference ≤ 7)) × ((l.stereo ≤ 7) × (l.mono ≤ 7) × (l.changes ≤ 7) × (l.magnitude ≤ 7)) }
 {
     let pilot: &[f32] = pilots;
@@ -182,20 +200,21 @@ fn lent_f32(
         &mut changes[0..n_changes],
         &mut magnitudes[0..n_magnitude],
     );
-    left_f32(next);
-    columns(&stereos, &monos, &changes);
-    outputs_f32(&magnitudes, &sum, &difference);
-    next
+    left_f32(out, next)?;
+    columns(out, &stereos, &monos, &changes)?;
+    outputs_f32(out, &magnitudes, &sum, &difference)?;
+    Ok(next)
 }
 
 fn lent_q15(
+    out: &mut impl Write,
     r: SummarizedQ15,
     table: &[i16],
     pilots: &[i16; 7],
     mpxs: &[i16; 7],
     n: usize,
     l: Lengths,
-) -> SummarizedQ15
+) -> io::Result<SummarizedQ15>
     requires { ((n ≤ 7) × (l.pilot ≤ 7) × (l.sum ≤ 7) × (l.difference ≤ 7)) × ((l.stereo ≤ 7) × (l.mono ≤ 7) × (l.changes ≤ 7) × (l.magnitude ≤ 7)) }
 {
     let pilot: &[i16] = pilots;
@@ -228,52 +247,65 @@ fn lent_q15(
         &mut changes[0..n_changes],
         &mut magnitudes[0..n_magnitude],
     );
-    left_q15(next);
-    columns(&stereos, &monos, &changes);
-    outputs_q15(&magnitudes, &sum, &difference);
-    next
+    left_q15(out, next)?;
+    columns(out, &stereos, &monos, &changes)?;
+    outputs_q15(out, &magnitudes, &sum, &difference)?;
+    Ok(next)
 }
 
-fn run_f32(r: SummarizedF32, table: &[f32], script: &[u8], l: Lengths) -> SummarizedF32
+fn run_f32(
+    out: &mut impl Write,
+    r: SummarizedF32,
+    table: &[f32],
+    script: &[u8],
+    l: Lengths,
+) -> io::Result<SummarizedF32>
     requires { ((length script.now ≤ 14) × (l.pilot ≤ 7) × (l.sum ≤ 7) × (l.difference ≤ 7)) × ((l.stereo ≤ 7) × (l.mono ≤ 7) × (l.changes ≤ 7) × (l.magnitude ≤ 7)) }
 {
     let mut pilot = [0.0f32; 7];
     let mut mpx = [0.0f32; 7];
     fill_f32(script, &mut pilot, &mut mpx);
-    lent_f32(r, table, &pilot, &mpx, script.len() / 2, l)
+    lent_f32(out, r, table, &pilot, &mpx, script.len() / 2, l)
 }
 
-fn run_q15(r: SummarizedQ15, table: &[i16], script: &[u8], l: Lengths) -> SummarizedQ15
+fn run_q15(
+    out: &mut impl Write,
+    r: SummarizedQ15,
+    table: &[i16],
+    script: &[u8],
+    l: Lengths,
+) -> io::Result<SummarizedQ15>
     requires { ((length script.now ≤ 14) × (l.pilot ≤ 7) × (l.sum ≤ 7) × (l.difference ≤ 7)) × ((l.stereo ≤ 7) × (l.mono ≤ 7) × (l.changes ≤ 7) × (l.magnitude ≤ 7)) }
 {
     let mut pilot = [0i16; 7];
     let mut mpx = [0i16; 7];
     fill_q15(script, &mut pilot, &mut mpx);
-    lent_q15(r, table, &pilot, &mpx, script.len() / 2, l)
+    lent_q15(out, r, table, &pilot, &mpx, script.len() / 2, l)
 }
 
 // A line for each format.
 pub(crate) fn run(
+    out: &mut impl Write,
     b: Both,
     name: &[u8],
     script: &[u8],
     ones: &[f32],
     tops: &[i16],
     l: Lengths,
-) -> Both
+) -> io::Result<Both>
     requires { ((length script.now ≤ 14) × (l.pilot ≤ 7) × (l.sum ≤ 7) × (l.difference ≤ 7)) × ((l.stereo ≤ 7) × (l.mono ≤ 7) × (l.changes ≤ 7) × (l.magnitude ≤ 7)) }
 {
     let r = b.f;
     let t = b.q;
-    show::label(name);
-    show::label(b" f32");
-    let f = run_f32(r, ones, script, l);
-    show::label(b"\n");
-    show::label(name);
-    show::label(b" Q15");
-    let q = run_q15(t, tops, script, l);
-    show::label(b"\n");
-    Both { f, q }
+    show::label(out, name)?;
+    show::label(out, b" f32")?;
+    let f = run_f32(out, r, ones, script, l)?;
+    show::label(out, b"\n")?;
+    show::label(out, name)?;
+    show::label(out, b" Q15")?;
+    let q = run_q15(out, t, tops, script, l)?;
+    show::label(out, b"\n")?;
+    Ok(Both { f, q })
 }
 
 // Lengths that fit n samples, with this many periods that end.
@@ -293,10 +325,18 @@ pub(crate) fn fitting(n: usize, places: usize) -> Lengths
 }
 
 // A block by its script.
-pub(crate) fn block(b: Both, script: &[u8], ones: &[f32], tops: &[i16], places: usize) -> Both
+pub(crate) fn block(
+    out: &mut impl Write,
+    b: Both,
+    script: &[u8],
+    ones: &[f32],
+    tops: &[i16],
+    places: usize,
+) -> io::Result<Both>
     requires { (length script.now ≤ 14) × (places ≤ 7) }
 {
     run(
+        out,
         b,
         script,
         script,

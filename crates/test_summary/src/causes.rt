@@ -4,21 +4,34 @@ ghost use Rattle.std.specs.Prelude.{◌≡◌, ◌≤◌, length};
 
 use crate::call::{Both, Lengths, fitting, run};
 use crate::start;
+use std::io;
+use std::io::Write;
 use summary_counts::Counts;
 use test_words::words::f32_of;
 
 // A call that only the summaries can have refused, if this many periods end.
-fn held(name: &[u8], ones: &[f32], tops: &[i16], c: Counts, m: f32, k: i16, places: usize)
+fn held(
+    out: &mut impl Write,
+    name: &[u8],
+    ones: &[f32],
+    tops: &[i16],
+    c: Counts,
+    m: f32,
+    k: i16,
+    places: usize,
+) -> io::Result<()>
     requires { places ≤ 7 }
 {
     let d = start::decoder_f32(true, true);
     let e = start::decoder_q15(0, true, true);
     let b = start::held(d, e, c, m, k);
-    run(b, name, b"k2k2", ones, tops, fitting(2, places));
+    run(out, b, name, b"k2k2", ones, tops, fitting(2, places))?;
+    Ok(())
 }
 
 // Counts after a stereo sample.
 fn counted(
+    out: &mut impl Write,
     name: &[u8],
     ones: &[f32],
     tops: &[i16],
@@ -27,7 +40,7 @@ fn counted(
     mono: u32,
     changes: u32,
     places: usize,
-)
+) -> io::Result<()>
     requires { places ≤ 7 }
 {
     let c = Counts {
@@ -37,21 +50,38 @@ fn counted(
         changes,
         before: true,
     };
-    held(name, ones, tops, c, 0.0, 0, places);
+    held(out, name, ones, tops, c, 0.0, 0, places)
 }
 
 // 2147483648 twice is 2^32, which is 0 in 32 bits.
-pub(crate) fn by_counts(ones: &[f32], tops: &[i16]) {
-    counted(b"period 0", ones, tops, 0, 0, 0, 0, 0);
-    counted(b"held 7 of 7", ones, tops, 7, 3, 4, 0, 1);
-    counted(b"held 6 of 7", ones, tops, 7, 2, 4, 0, 1);
-    counted(b"held 2^32", ones, tops, 7, 2147483648, 2147483648, 0, 0);
-    counted(b"3 changes of 2", ones, tops, 7, 1, 1, 3, 0);
-    counted(b"2 changes of 2", ones, tops, 7, 1, 1, 2, 0);
+pub(crate) fn by_counts(out: &mut impl Write, ones: &[f32], tops: &[i16]) -> io::Result<()> {
+    counted(out, b"period 0", ones, tops, 0, 0, 0, 0, 0)?;
+    counted(out, b"held 7 of 7", ones, tops, 7, 3, 4, 0, 1)?;
+    counted(out, b"held 6 of 7", ones, tops, 7, 2, 4, 0, 1)?;
+    counted(
+        out,
+        b"held 2^32",
+        ones,
+        tops,
+        7,
+        2147483648,
+        2147483648,
+        0,
+        0,
+    )?;
+    counted(out, b"3 changes of 2", ones, tops, 7, 1, 1, 3, 0)?;
+    counted(out, b"2 changes of 2", ones, tops, 7, 1, 1, 2, 0)
 }
 
 // The magnitudes m and k, with nothing held and with one sample.
-fn magnitude(name: &[u8], ones: &[f32], tops: &[i16], m: f32, k: i16) {
+fn magnitude(
+    out: &mut impl Write,
+    name: &[u8],
+    ones: &[f32],
+    tops: &[i16],
+    m: f32,
+    k: i16,
+) -> io::Result<()> {
     let none = Counts {
         period: 7,
         stereo: 0,
@@ -59,7 +89,7 @@ fn magnitude(name: &[u8], ones: &[f32], tops: &[i16], m: f32, k: i16) {
         changes: 0,
         before: true,
     };
-    held(name, ones, tops, none, m, k, 0);
+    held(out, name, ones, tops, none, m, k, 0)?;
     let one = Counts {
         period: 7,
         stereo: 1,
@@ -67,22 +97,23 @@ fn magnitude(name: &[u8], ones: &[f32], tops: &[i16], m: f32, k: i16) {
         changes: 0,
         before: true,
     };
-    held(name, ones, tops, one, m, k, 0);
+    held(out, name, ones, tops, one, m, k, 0)
 }
 
-pub(crate) fn by_magnitude(ones: &[f32], tops: &[i16]) {
-    magnitude(b"magnitude NaN, -32768", ones, tops, 0.0 / 0.0, -32768);
-    magnitude(b"magnitude -1, -1", ones, tops, -1.0, -1);
-    magnitude(b"magnitude -0, 0", ones, tops, -0.0, 0);
-    magnitude(b"magnitude 0, 0", ones, tops, 0.0, 0);
-    magnitude(b"magnitude subnormal, 1", ones, tops, f32_of(1), 1);
+pub(crate) fn by_magnitude(out: &mut impl Write, ones: &[f32], tops: &[i16]) -> io::Result<()> {
+    magnitude(out, b"magnitude NaN, -32768", ones, tops, 0.0 / 0.0, -32768)?;
+    magnitude(out, b"magnitude -1, -1", ones, tops, -1.0, -1)?;
+    magnitude(out, b"magnitude -0, 0", ones, tops, -0.0, 0)?;
+    magnitude(out, b"magnitude 0, 0", ones, tops, 0.0, 0)?;
+    magnitude(out, b"magnitude subnormal, 1", ones, tops, f32_of(1), 1)?;
     magnitude(
+        out,
         b"magnitude infinity, 32767",
         ones,
         tops,
         f32_of(0x7F80_0000),
         32767,
-    );
+    )
 }
 
 // Whether the pattern has an x at place k.
@@ -119,18 +150,25 @@ fn lengths(pattern: &[u8]) -> Lengths
 }
 
 // A call by the pattern, apart from what it says of summary and decoder.
-fn by_lengths(b: Both, pattern: &[u8], ones: &[f32], tops: &[i16])
+fn by_lengths(
+    out: &mut impl Write,
+    b: Both,
+    pattern: &[u8],
+    ones: &[f32],
+    tops: &[i16],
+) -> io::Result<()>
     requires { (length ones.now ≡ 4097) × (length tops.now ≡ 4097) }
 {
     let n = either(pattern, 2, 4, 4097, 4097);
     let l = lengths(pattern);
-    run(b, pattern, b"k2k2", &ones[0..n], &tops[0..n], l);
+    run(out, b, pattern, b"k2k2", &ones[0..n], &tops[0..n], l)?;
+    Ok(())
 }
 
 // The causes with an x in the pattern are in force: 20, 0, 9, 10, 11 for sum and difference, 11 for
 // the columns of stereo samples, mono samples, changes, magnitude. There is no 0 in f32. One sample
 // is held of a period of 3, and 2 changes are one too many.
-fn ordered(pattern: &[u8], ones: &[f32], tops: &[i16])
+fn ordered(out: &mut impl Write, pattern: &[u8], ones: &[f32], tops: &[i16]) -> io::Result<()>
     requires { (length ones.now ≡ 4097) × (length tops.now ≡ 4097) }
 {
     let changes = if wrong(pattern, 0) { 2 } else { 1 };
@@ -145,24 +183,25 @@ fn ordered(pattern: &[u8], ones: &[f32], tops: &[i16])
     let d = start::decoder_f32(true, true);
     let e = start::decoder_q15(kp, true, true);
     let b = start::held(d, e, c, 1.0, 1);
-    by_lengths(b, pattern, ones, tops);
+    by_lengths(out, b, pattern, ones, tops)
 }
 
 // Each ten places of the text that follow each other are a pattern.
-fn windows(text: &[u8], ones: &[f32], tops: &[i16])
+fn windows(out: &mut impl Write, text: &[u8], ones: &[f32], tops: &[i16]) -> io::Result<()>
     requires { (length ones.now ≡ 4097) × (length tops.now ≡ 4097) }
 {
     let mut k = 9usize;
     while k < text.len() {
-        ordered(&text[k - 9..k + 1], ones, tops);
+        ordered(out, &text[k - 9..k + 1], ones, tops)?;
         k += 1;
     }
+    Ok(())
 }
 
 // None and each cause alone, from the last one; then each with all later ones.
-pub(crate) fn by_order(ones: &[f32], tops: &[i16])
+pub(crate) fn by_order(out: &mut impl Write, ones: &[f32], tops: &[i16]) -> io::Result<()>
     requires { (length ones.now ≡ 4097) × (length tops.now ≡ 4097) }
 {
-    windows(b"..........x.........", ones, tops);
-    windows(b"........xxxxxxxxxx", ones, tops);
+    windows(out, b"..........x.........", ones, tops)?;
+    windows(out, b"........xxxxxxxxxx", ones, tops)
 }

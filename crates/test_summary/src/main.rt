@@ -5,25 +5,30 @@
 
 ghost use Rattle.std.specs.Prelude.{◌≡◌, length};
 
+use std::io;
+use std::io::{BufWriter, Write};
+
 mod blocks;
 mod call;
 mod causes;
 mod show;
 mod start;
 
-fn all(ones: &[f32], tops: &[i16])
+fn all(out: &mut impl Write, ones: &[f32], tops: &[i16]) -> io::Result<()>
     requires { (length ones.now ≡ 4097) × (length tops.now ≡ 4097) }
 {
-    causes::by_counts(ones, tops);
-    causes::by_magnitude(ones, tops);
-    causes::by_order(ones, tops);
-    blocks::decisions(ones, tops);
-    blocks::magnitudes(ones, tops);
-    blocks::periods(ones, tops);
+    causes::by_counts(out, ones, tops)?;
+    causes::by_magnitude(out, ones, tops)?;
+    causes::by_order(out, ones, tops)?;
+    blocks::decisions(out, ones, tops)?;
+    blocks::magnitudes(out, ones, tops)?;
+    blocks::periods(out, ones, tops)
 }
 
-fn main() {
+fn main(rt: HostRuntime) -> io::Result<()> {
+    let mut out = BufWriter::new(rt.alloc(), io::writer(&rt))?;
     let ones = [1.0f32; 4097];
     let tops = [32767i16; 4097];
-    all(&ones, &tops);
+    all(&mut out, &ones, &tops)?;
+    out.flush()
 }

@@ -1,120 +1,121 @@
 // What the cases write.
 use answers::answer::{Answer, code_of};
-use libc::STDOUT_FILENO;
+use std::io;
+use std::io::Write;
 use summary_counts::Counts;
 
-pub(crate) fn label(text: &[u8]) {
-    io::write_all(STDOUT_FILENO, text);
+pub(crate) fn label(out: &mut impl Write, text: &[u8]) -> io::Result<()> {
+    out.write_all(text)
 }
 
-fn number(n: u64) {
-    io::write_all(STDOUT_FILENO, b" ");
-    io::print_decimal(STDOUT_FILENO, n);
+fn number(out: &mut impl Write, n: u64) -> io::Result<()> {
+    write!(out, " {n}")
 }
 
-pub(crate) fn count(n: u32) {
-    number(n as u64);
+pub(crate) fn count(out: &mut impl Write, n: u32) -> io::Result<()> {
+    number(out, n as u64)
 }
 
-pub(crate) fn yes(b: bool) {
-    number(test_words::words::word_bool(b));
+pub(crate) fn yes(out: &mut impl Write, b: bool) -> io::Result<()> {
+    number(out, test_words::words::word_bool(b))
 }
 
 // A float by its bit pattern.
-pub(crate) fn pattern(x: f32) {
-    number(test_words::words::word_f32(x));
+pub(crate) fn pattern(out: &mut impl Write, x: f32) -> io::Result<()> {
+    number(out, test_words::words::word_f32(x))
 }
 
 // A word in two's complement.
-fn twos(w: u64) {
+fn twos(out: &mut impl Write, w: u64) -> io::Result<()> {
     if w >= 9223372036854775808 {
-        io::write_all(STDOUT_FILENO, b" -");
-        io::print_decimal(STDOUT_FILENO, std::num::wrapping_sub_u64(0, w));
+        write!(out, " -{}", std::num::wrapping_sub_u64(0, w))
     } else {
-        number(w);
+        number(out, w)
     }
 }
 
-pub(crate) fn signed(z: i64) {
-    twos(test_words::words::word_i64(z));
+pub(crate) fn signed(out: &mut impl Write, z: i64) -> io::Result<()> {
+    twos(out, test_words::words::word_i64(z))
 }
 
-pub(crate) fn sample(x: i16) {
-    twos(test_words::words::word_i16(x));
+pub(crate) fn sample(out: &mut impl Write, x: i16) -> io::Result<()> {
+    twos(out, test_words::words::word_i16(x))
 }
 
 // A block's answer, with its lengths.
-pub(crate) fn said(a: Answer) {
+pub(crate) fn said(out: &mut impl Write, a: Answer) -> io::Result<()> {
     let c = code_of(a);
     if c.code == 0 {
-        io::write_all(STDOUT_FILENO, b": accepted");
-        return;
+        return write!(out, ": accepted");
     }
-    io::write_all(STDOUT_FILENO, b": refused by");
-    number((c.code % 100) as u64);
-    number(c.expected as u64);
-    number(c.got as u64);
+    write!(out, ": refused by")?;
+    number(out, (c.code % 100) as u64)?;
+    number(out, c.expected as u64)?;
+    number(out, c.got as u64)
 }
 
 // What a summary holds beside its magnitude.
-pub(crate) fn held(c: Counts) {
-    io::write_all(STDOUT_FILENO, b" held");
-    count(c.period);
-    count(c.stereo);
-    count(c.mono);
-    count(c.changes);
-    yes(c.before);
+pub(crate) fn held(out: &mut impl Write, c: Counts) -> io::Result<()> {
+    write!(out, " held")?;
+    count(out, c.period)?;
+    count(out, c.stereo)?;
+    count(out, c.mono)?;
+    count(out, c.changes)?;
+    yes(out, c.before)
 }
 
 // A place of an output: a dot where it still holds 9, which no case writes.
-fn place_u32(n: u32) {
+fn place_u32(out: &mut impl Write, n: u32) -> io::Result<()> {
     if n == 9 {
-        label(b" .");
+        label(out, b" .")
     } else {
-        count(n);
+        count(out, n)
     }
 }
 
-fn place_f32(x: f32) {
+fn place_f32(out: &mut impl Write, x: f32) -> io::Result<()> {
     if x == 9.0 {
-        label(b" .");
+        label(out, b" .")
     } else {
-        pattern(x);
+        pattern(out, x)
     }
 }
 
-fn place_i16(x: i16) {
+fn place_i16(out: &mut impl Write, x: i16) -> io::Result<()> {
     if x == 9 {
-        label(b" .");
+        label(out, b" .")
     } else {
-        sample(x);
+        sample(out, x)
     }
 }
 
 // An output, all of its places.
-pub(crate) fn numbers(name: &[u8], x: &[u32]) {
-    label(name);
+pub(crate) fn numbers(out: &mut impl Write, name: &[u8], x: &[u32]) -> io::Result<()> {
+    label(out, name)?;
     let mut i = 0usize;
     while i < x.len() {
-        place_u32(x[i]);
+        place_u32(out, x[i])?;
         i += 1;
     }
+    Ok(())
 }
 
-pub(crate) fn patterns(name: &[u8], x: &[f32]) {
-    label(name);
+pub(crate) fn patterns(out: &mut impl Write, name: &[u8], x: &[f32]) -> io::Result<()> {
+    label(out, name)?;
     let mut i = 0usize;
     while i < x.len() {
-        place_f32(x[i]);
+        place_f32(out, x[i])?;
         i += 1;
     }
+    Ok(())
 }
 
-pub(crate) fn samples(name: &[u8], x: &[i16]) {
-    label(name);
+pub(crate) fn samples(out: &mut impl Write, name: &[u8], x: &[i16]) -> io::Result<()> {
+    label(out, name)?;
     let mut i = 0usize;
     while i < x.len() {
-        place_i16(x[i]);
+        place_i16(out, x[i])?;
         i += 1;
     }
+    Ok(())
 }

@@ -1,10 +1,12 @@
-// How many lines agreed, differed or could not be read. No contract can say what is written: what
-// these functions write is held to the programs' files stdout.
-ghost use Rattle.std.specs.Prelude.{◌≡◌};
-ghost use Rattle.test_tally.specs.Tallies.{fresh_of, agreed_at, agree_of, differ_of, refuse_of, end_of, flawless};
+// How many lines agreed, differed or could not be read, and what is written of them. An error comes
+// from the writer alone, and leaves the tally that was passed as it was.
+ghost use Rattle.std.specs.Prelude.{◌≡◌, true, IfOk, OnOk, OnErr};
+ghost use Rattle.test_tally.specs.Tallies.{fresh_of, agreed_at, agree_of, differ_of, refuse_of, end_of, flawless, shown_at, malformed_text, difference_text, count_text, sums_text, report_text};
+ghost use Rattle.std.specs.Io.KnownBytes.{Appends};
 ghost use Rattle.test_tally.specs.Tallies.{more as Tallies·more};
 
-use libc::STDOUT_FILENO;
+use std::io;
+use std::io::Write;
 
 #[derive(Clone, Copy)]
 pub struct Tally {
@@ -51,44 +53,58 @@ pub fn agree(t: Tally, function: usize) -> Tally
 // After this many lines that are wrong, the others are counted and not shown.
 const SHOWN: u64 = 20;
 
-fn shows(t: Tally) -> bool {
+fn shows(t: Tally) -> bool
+    ensures { result ≡ shown_at t }
+{
     std::num::wrapping_add_u64(t.differed, t.malformed) < SHOWN
 }
 
-fn show_difference(t: Tally, line: &[u8], got: u64) {
-    if shows(t) {
-        io::write_all(STDOUT_FILENO, b"differs: ");
-        io::write_all(STDOUT_FILENO, line);
-        io::write_all(STDOUT_FILENO, b"    got: ");
-        io::print_hex(STDOUT_FILENO, got, 16);
-        io::write_all(STDOUT_FILENO, b"\n");
-    }
-}
-
-pub fn differ(t: Tally, line: &[u8], got: u64) -> Tally
-    ensures { result ≡ differ_of t }
+fn show_difference<W: Write>(out: &mut W, t: Tally, line: &[u8], got: u64) -> io::Result<()>
+    ensures ok { OnOk result (Appends (W.contents out.old) (W.contents out.new) (difference_text t line.now got)) }
+    ensures err { OnErr result (shown_at t ≡ true) }
 {
-    show_difference(t, line, got);
-    let mut out = t;
-    out.differed = more(out.differed);
-    out
-}
-
-fn show_malformed(t: Tally, line: &[u8]) {
     if shows(t) {
-        io::write_all(STDOUT_FILENO, b"malformed: ");
-        io::write_all(STDOUT_FILENO, line);
-        io::write_all(STDOUT_FILENO, b"\n");
+        out.write_all(b"differs: ")?;
+        out.write_all(line)?;
+        writeln!(out, "    got: {got:016x}")?;
     }
+    Ok(())
 }
 
-pub fn refuse(t: Tally, line: &[u8]) -> Tally
-    ensures { result ≡ refuse_of t }
+// Writes the line, if not too many were wrong before; only then can it fail.
+pub fn differ<W: Write>(out: &mut W, t: Tally, line: &[u8], got: u64) -> io::Result<Tally>
+    ensures ok { IfOk result (λ next. next ≡ differ_of t) }
+    ensures written { OnOk result (Appends (W.contents out.old) (W.contents out.new) (difference_text t line.now got)) }
+    ensures err { OnErr result (shown_at t ≡ true) }
 {
-    show_malformed(t, line);
-    let mut out = t;
-    out.malformed = more(out.malformed);
-    out
+    show_difference(out, t, line, got)?;
+    let mut next = t;
+    next.differed = more(next.differed);
+    Ok(next)
+}
+
+fn show_malformed<W: Write>(out: &mut W, t: Tally, line: &[u8]) -> io::Result<()>
+    ensures ok { OnOk result (Appends (W.contents out.old) (W.contents out.new) (malformed_text t line.now)) }
+    ensures err { OnErr result (shown_at t ≡ true) }
+{
+    if shows(t) {
+        out.write_all(b"malformed: ")?;
+        out.write_all(line)?;
+        out.write_all(b"\n")?;
+    }
+    Ok(())
+}
+
+// Writes the line, if not too many were wrong before; only then can it fail.
+pub fn refuse<W: Write>(out: &mut W, t: Tally, line: &[u8]) -> io::Result<Tally>
+    ensures ok { IfOk result (λ next. next ≡ refuse_of t) }
+    ensures written { OnOk result (Appends (W.contents out.old) (W.contents out.new) (malformed_text t line.now)) }
+    ensures err { OnErr result (shown_at t ≡ true) }
+{
+    show_malformed(out, t, line)?;
+    let mut next = t;
+    next.malformed = more(next.malformed);
+    Ok(next)
 }
 
 pub fn end(t: Tally) -> Tally
@@ -106,37 +122,36 @@ fn agreed(t: Tally, k: usize) -> u64
     if k < 32 { t.agreed[k] } else { 0 }
 }
 
-fn write_count(name: &[u8], n: u64) {
-    io::write_all(STDOUT_FILENO, name);
-    io::write_all(STDOUT_FILENO, b" ");
-    io::print_decimal(STDOUT_FILENO, n);
-    io::write_all(STDOUT_FILENO, b"\n");
+fn write_count<W: Write>(out: &mut W, name: &[u8], n: u64) -> io::Result<()>
+    ensures { OnOk result (Appends (W.contents out.old) (W.contents out.new) (count_text name.now n)) }
+{
+    out.write_all(name)?;
+    writeln!(out, " {n}")
 }
 
 // Writes the sums, and answers whether no line differed and none was malformed.
-pub fn report_all(t: Tally) -> bool
-    ensures { result ≡ flawless t }
+pub fn report_all<W: Write>(out: &mut W, t: Tally) -> io::Result<bool>
+    ensures value { IfOk result (λ good. good ≡ flawless t) }
+    ensures written { OnOk result (Appends (W.contents out.old) (W.contents out.new) (sums_text t)) }
 {
-    io::print_decimal(STDOUT_FILENO, t.all_agreed);
-    io::write_all(STDOUT_FILENO, b" lines agree, ");
-    io::print_decimal(STDOUT_FILENO, t.differed);
-    io::write_all(STDOUT_FILENO, b" differ, ");
-    io::print_decimal(STDOUT_FILENO, t.malformed);
-    io::write_all(STDOUT_FILENO, b" malformed\n");
-    (t.differed == 0) & (t.malformed == 0)
+    writeln!(
+        out,
+        "{} lines agree, {} differ, {} malformed",
+        t.all_agreed, t.differed, t.malformed
+    )?;
+    Ok((t.differed == 0) & (t.malformed == 0))
 }
 
 // Writes the lines of all functions, whose names stand in 16 columns each, and the sums.
-pub fn report(t: Tally, names: &[u8]) -> bool
-    ensures { result ≡ flawless t }
+pub fn report<W: Write>(out: &mut W, t: Tally, names: &[u8]) -> io::Result<bool>
+    ensures value { IfOk result (λ good. good ≡ flawless t) }
+    ensures written { OnOk result (Appends (W.contents out.old) (W.contents out.new) (report_text t names.now)) }
 {
     let count = names.len() / 16;
-    let mut k = 0;
-    while k < count {
+    for k in 0..count {
         let from = 16 * k;
         let to = from + 16;
-        write_count(&names[from..to], agreed(t, k));
-        k += 1;
+        write_count(out, &names[from..to], agreed(t, k))?;
     }
-    report_all(t)
+    report_all(out, t)
 }

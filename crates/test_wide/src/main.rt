@@ -7,58 +7,58 @@
 use answers::answer::code_of;
 use counted::Counted;
 use decoder_record::pll_f32::StereoPllF32;
-use libc::STDOUT_FILENO;
+use std::io;
+use std::io::{BufWriter, Write};
 use summary_record::in_f32::SummaryF32;
 use test_words::words::{f32_of, f64_of, word_bool};
 
-fn number(n: u64) {
-    io::write_all(STDOUT_FILENO, b" ");
-    io::print_decimal(STDOUT_FILENO, n);
+fn number(out: &mut impl Write, n: u64) -> io::Result<()> {
+    write!(out, " {n}")
 }
 
-fn done() {
-    io::write_all(STDOUT_FILENO, b"\n");
+fn done(out: &mut impl Write) -> io::Result<()> {
+    writeln!(out)
 }
 
 // ---- the correction
-fn serves(name: &[u8], v: u64) {
-    io::write_all(STDOUT_FILENO, name);
-    number(word_bool(phase::correction::quick_serves(f64_of(v))));
-    done();
+fn serves(out: &mut impl Write, name: &str, v: u64) -> io::Result<()> {
+    write!(out, "{name}")?;
+    number(out, word_bool(phase::correction::quick_serves(f64_of(v))))?;
+    done(out)
 }
 
-fn served() {
-    serves(b"v below 2^51:", 0x431F_FFFF_FFFF_FFFF);
-    serves(b"v 2^51:", 0x4320_0000_0000_0000);
-    serves(b"v above 2^51:", 0x4320_0000_0000_0001);
-    serves(b"v above -2^51:", 0xC31F_FFFF_FFFF_FFFF);
-    serves(b"v -2^51:", 0xC320_0000_0000_0000);
-    serves(b"v below -2^51:", 0xC320_0000_0000_0001);
-    serves(b"v 0:", 0);
-    serves(b"v infinity:", 0x7FF0_0000_0000_0000);
-    serves(b"v -infinity:", 0xFFF0_0000_0000_0000);
-    serves(b"v NaN:", 0x7FF8_0000_0000_0000);
+fn served(out: &mut impl Write) -> io::Result<()> {
+    serves(out, "v below 2^51:", 0x431F_FFFF_FFFF_FFFF)?;
+    serves(out, "v 2^51:", 0x4320_0000_0000_0000)?;
+    serves(out, "v above 2^51:", 0x4320_0000_0000_0001)?;
+    serves(out, "v above -2^51:", 0xC31F_FFFF_FFFF_FFFF)?;
+    serves(out, "v -2^51:", 0xC320_0000_0000_0000)?;
+    serves(out, "v below -2^51:", 0xC320_0000_0000_0001)?;
+    serves(out, "v 0:", 0)?;
+    serves(out, "v infinity:", 0x7FF0_0000_0000_0000)?;
+    serves(out, "v -infinity:", 0xFFF0_0000_0000_0000)?;
+    serves(out, "v NaN:", 0x7FF8_0000_0000_0000)
 }
 
-fn corrected(name: &[u8], f: u64) {
-    io::write_all(STDOUT_FILENO, name);
+fn corrected(out: &mut impl Write, name: &str, f: u64) -> io::Result<()> {
+    write!(out, "{name}")?;
     let k = phase::correction::correction_fast(f32_of(f));
-    number(k.step as u64);
-    number(word_bool(k.quick));
-    done();
+    number(out, k.step as u64)?;
+    number(out, word_bool(k.quick))?;
+    done(out)
 }
 
-fn corrections() {
-    corrected(b"f below 524288:", 0x48FF_FFFF);
-    corrected(b"f 524288:", 0x4900_0000);
-    corrected(b"f 524288.0625:", 0x4900_0001);
-    corrected(b"f -524288:", 0xC900_0000);
-    corrected(b"f below -524288:", 0xC900_0001);
-    corrected(b"f 0:", 0);
-    corrected(b"f 0.25:", 0x3E80_0000);
-    corrected(b"f infinity:", 0x7F80_0000);
-    corrected(b"f -infinity:", 0xFF80_0000);
-    corrected(b"f NaN:", 0x7FC0_0000);
+fn corrections(out: &mut impl Write) -> io::Result<()> {
+    corrected(out, "f below 524288:", 0x48FF_FFFF)?;
+    corrected(out, "f 524288:", 0x4900_0000)?;
+    corrected(out, "f 524288.0625:", 0x4900_0001)?;
+    corrected(out, "f -524288:", 0xC900_0000)?;
+    corrected(out, "f below -524288:", 0xC900_0001)?;
+    corrected(out, "f 0:", 0)?;
+    corrected(out, "f 0.25:", 0x3E80_0000)?;
+    corrected(out, "f infinity:", 0x7F80_0000)?;
+    corrected(out, "f -infinity:", 0xFF80_0000)?;
+    corrected(out, "f NaN:", 0x7FC0_0000)
 }
 
 // ---- blocks
@@ -90,28 +90,38 @@ fn pilots(a: u64, b: u64, c: u64, d: u64) -> [f32; 4] {
 }
 
 // The count of an accepted call, or the refusal's number.
-fn told(c: Counted) {
+fn told(out: &mut impl Write, c: Counted) -> io::Result<()> {
     match c {
-        Counted::Accepted(n) => {
-            number(n as u64);
-        }
+        Counted::Accepted(n) => { number(out, n as u64) }
         Counted::Refused(a) => {
-            io::write_all(STDOUT_FILENO, b" refused by");
-            number((code_of(a).code % 100) as u64);
+            write!(out, " refused by")?;
+            number(out, (code_of(a).code % 100) as u64)
         }
     }
 }
 
-fn merged(d: StereoPllF32, table: &[f32], mpx: &[f32], pilot: &[f32]) {
+fn merged(
+    out: &mut impl Write,
+    d: StereoPllF32,
+    table: &[f32],
+    mpx: &[f32],
+    pilot: &[f32],
+) -> io::Result<()> {
     let mut left = [9.0f32; 4];
     let mut right = [9.0f32; 4];
     let r = merged::in_f32::block(d, table, mpx, pilot, &mut left, &mut right);
     let answer = r.answer;
-    told(answer);
+    told(out, answer)
 }
 
 // A period of three samples, of which one ends in four.
-fn summarized(d: StereoPllF32, table: &[f32], mpx: &[f32], pilot: &[f32]) {
+fn summarized(
+    out: &mut impl Write,
+    d: StereoPllF32,
+    table: &[f32],
+    mpx: &[f32],
+    pilot: &[f32],
+) -> io::Result<()> {
     let mut sum = [9.0f32; 4];
     let mut difference = [9.0f32; 4];
     let mut stereos = [9u32; 1];
@@ -132,85 +142,103 @@ fn summarized(d: StereoPllF32, table: &[f32], mpx: &[f32], pilot: &[f32]) {
         &mut magnitudes,
     );
     let answer = r.answer;
-    told(answer);
+    told(out, answer)
 }
 
 // The same samples by each sort of call; the decoder after the block.
-fn called(name: &[u8], d: StereoPllF32, table: &[f32], pilot: &[f32]) -> StereoPllF32 {
+fn called(
+    out: &mut impl Write,
+    name: &str,
+    d: StereoPllF32,
+    table: &[f32],
+    pilot: &[f32],
+) -> io::Result<StereoPllF32> {
     let mpx = [0.5f32; 4];
     let mut sum = [9.0f32; 4];
     let mut difference = [9.0f32; 4];
-    io::write_all(STDOUT_FILENO, name);
+    write!(out, "{name}")?;
     let r = decoder_fast::block(d, table, &mpx, pilot, &mut sum, &mut difference);
     let answer = r.answer;
-    told(answer);
-    merged(d, table, &mpx, pilot);
-    summarized(d, table, &mpx, pilot);
-    done();
-    r.decoder
+    told(out, answer)?;
+    merged(out, d, table, &mpx, pilot)?;
+    summarized(out, d, table, &mpx, pilot)?;
+    done(out)?;
+    Ok(r.decoder)
 }
 
 // .. with a whole table and four samples.
-fn counted(name: &[u8], d: StereoPllF32, table: &[f32; 4097], pilot: &[f32; 4]) -> StereoPllF32 {
+fn counted(
+    out: &mut impl Write,
+    name: &str,
+    d: StereoPllF32,
+    table: &[f32; 4097],
+    pilot: &[f32; 4],
+) -> io::Result<StereoPllF32> {
     let t: &[f32] = table;
     let p: &[f32] = pilot;
-    called(name, d, t, p)
+    called(out, name, d, t, p)
 }
 
 // Each edge from both sides; once with finite pilots, and once with one that is not, so that each sample
 // is tested.
-fn edges(table: &[f32; 4097]) {
+fn edges(out: &mut impl Write, table: &[f32; 4097]) -> io::Result<()> {
     let d = record(0x3F80_0000, 0, 0);
     let upper = pilots(0x48FF_FFFF, 0x4900_0000, 0x4900_0001, 0);
     let lower = pilots(0xC8FF_FFFF, 0xC900_0000, 0xC900_0001, 0);
     let tested = pilots(0x7FC0_0000, 0x4900_0000, 0xC900_0000, 0xC900_0001);
     let infinite = pilots(0x7F80_0000, 0xFF80_0000, 0x7FC0_0000, 0x3F80_0000);
-    counted(b"upper edge:", d, table, &upper);
-    counted(b"lower edge:", d, table, &lower);
-    counted(b"a NaN pilot among them:", d, table, &tested);
-    counted(b"pilots that are not finite:", d, table, &infinite);
+    counted(out, "upper edge:", d, table, &upper)?;
+    counted(out, "lower edge:", d, table, &lower)?;
+    counted(out, "a NaN pilot among them:", d, table, &tested)?;
+    counted(out, "pilots that are not finite:", d, table, &infinite)?;
+    Ok(())
 }
 
 // f is a NaN or infinite.
-fn no_numbers(table: &[f32; 4097]) {
+fn no_numbers(out: &mut impl Write, table: &[f32; 4097]) -> io::Result<()> {
     let mixed = pilots(0x3F80_0000, 0, 0xBF80_0000, 0x7FC0_0000);
     let nan = record(0x7FC0_0000, 0, 0);
     let infinite = record(0x7F80_0000, 0, 0);
     let held = record(0, 0x7F80_0000, 0x7F80_0000);
     let below = record(0, 0xFF80_0000, 0x7F80_0000);
     let limited = record(0x3F80_0000, 0x4980_0000, 0x4900_0000);
-    counted(b"kp NaN:", nan, table, &mixed);
-    counted(b"kp infinite:", infinite, table, &mixed);
-    counted(b"integrator infinite:", held, table, &mixed);
-    counted(b"integrator -infinite:", below, table, &mixed);
-    counted(b"integrator limited to 524288:", limited, table, &mixed);
+    counted(out, "kp NaN:", nan, table, &mixed)?;
+    counted(out, "kp infinite:", infinite, table, &mixed)?;
+    counted(out, "integrator infinite:", held, table, &mixed)?;
+    counted(out, "integrator -infinite:", below, table, &mixed)?;
+    counted(out, "integrator limited to 524288:", limited, table, &mixed)?;
+    Ok(())
 }
 
 // A block after one that counted three begins at 0 again.
-fn twice(table: &[f32; 4097]) {
+fn twice(out: &mut impl Write, table: &[f32; 4097]) -> io::Result<()> {
     let d = record(0x3F80_0000, 0, 0);
     let wide = pilots(0x4900_0000, 0x4900_0001, 0xC900_0001, 0);
     let quick = pilots(0, 0x3F80_0000, 0xC900_0000, 0x48FF_FFFF);
     let one = pilots(0, 0, 0, 0x4900_0000);
-    let next = counted(b"three:", d, table, &wide);
-    let last = counted(b"then none:", next, table, &quick);
-    counted(b"then one:", last, table, &one);
+    let next = counted(out, "three:", d, table, &wide)?;
+    let last = counted(out, "then none:", next, table, &quick)?;
+    counted(out, "then one:", last, table, &one)?;
+    Ok(())
 }
 
-fn refused(table: &[f32; 4097]) {
+fn refused(out: &mut impl Write, table: &[f32; 4097]) -> io::Result<()> {
     let d = record(0x3F80_0000, 0, 0);
     let wide = pilots(0x4900_0000, 0x4900_0001, 0xC900_0001, 0x4900_0000);
     let t: &[f32] = table;
-    called(b"a table of 4096:", d, &t[0..4096], &wide);
-    called(b"a pilot of 3:", d, t, &wide[0..3]);
+    called(out, "a table of 4096:", d, &t[0..4096], &wide)?;
+    called(out, "a pilot of 3:", d, t, &wide[0..3])?;
+    Ok(())
 }
 
-fn main() {
+fn main(rt: HostRuntime) -> io::Result<()> {
+    let mut out = BufWriter::new(rt.alloc(), io::writer(&rt))?;
     let table = [1.0f32; 4097];
-    served();
-    corrections();
-    edges(&table);
-    no_numbers(&table);
-    twice(&table);
-    refused(&table);
+    served(&mut out)?;
+    corrections(&mut out)?;
+    edges(&mut out, &table)?;
+    no_numbers(&mut out, &table)?;
+    twice(&mut out, &table)?;
+    refused(&mut out, &table)?;
+    out.flush()
 }

@@ -1,12 +1,12 @@
 -- `test_lines::line::find` meets its contract. The measure is how many names are left. Assumes nothing.
-use Prim.Native.Nat.{ℕ, ◌+◌, ◌-◌, ◌*◌, ◌/◌, ◌≤◌}
+use Prim.Native.Nat.{ℕ, ◌+◌, ◌-◌, ◌*◌, ◌/◌}
 use mathlib.Core.Path.{◌≡◌, sym, ◌∙◌}
 use mathlib.Core.Bool.{Bool}
 use mathlib.Core.List.{List}
 use native.Mathlib.Omega.{arith}
 use lib.ListN.{length, take, drop}
 use Rattle.test_lines.proofs.Reading.{found, passed_by, none_left}
-use Rattle.test_lines.specs.Columns.{starts_with, name_at, first_of, find_of}
+use Rattle.test_lines.specs.Columns.{starts_with, name_at}
 use Rattle.test_lines.proofs.line.find.Goals as goal
 
 abbrev test : List ℕ → List ℕ → ℕ → Bool

@@ -1,9 +1,7 @@
 -- `test_lines::line::is_formed` meets its contract. The measure is how many words are left. Assumes nothing.
-use Prim.Native.Nat.{◌-◌, ◌≤◌}
 use mathlib.Core.Path.{◌∙◌}
 use native.Mathlib.Omega.{arith}
-use borrow.Author.Tests.{not-true, not-false}
-use Rattle.test_lines.proofs.Reading.{Standing, standing_start, stands, standing_next, not_formed, formed_by}
+use Rattle.test_lines.proofs.Reading.{stands, standing_next, not_formed, formed_by}
 use Rattle.test_lines.proofs.line.is_formed.Goals as goal
 
 pub returns-then-not-has-is_word : goal.returns-then-not-has-is_word
@@ -12,7 +10,7 @@ returns-then-not-has-is_word c =
     let o = i.before.before.before in
     let s = o.args.line.now in
     not_formed s o.loop-k.at o.loop-k.k o.loop-k.invariant.1 _ (omega arith)
-    (stands s o.loop-k.at o.loop-k.k o.loop-k.invariant.1 _ _ _ i.has.ensures i.is_IsWord.ensures (not-true _ c.if-not-has-is_word.true))
+    (stands s o.loop-k.at o.loop-k.k o.loop-k.invariant.1 _ _ _ i.has.ensures i.is_word.ensures c.if-not-has-is_word.true)
 
 pub loop-k-preserved : goal.loop-k-preserved
 loop-k-preserved c =
@@ -21,7 +19,7 @@ loop-k-preserved c =
     let s = o.args.line.now in (
       omega arith,
       standing_next s o.loop-k.at o.loop-k.k o.loop-k.invariant.1
-          (stands s o.loop-k.at o.loop-k.k o.loop-k.invariant.1 _ _ _ i.has.ensures i.is_IsWord.ensures (not-false _ c.if-not-has-is_word.false)),
+          (stands s o.loop-k.at o.loop-k.k o.loop-k.invariant.1 _ _ _ i.has.ensures i.is_word.ensures c.if-not-has-is_word.false),
     )
 
 pub returns : goal.returns

@@ -1,8 +1,5 @@
 use Prim.Native.Nat.{◌-◌, ◌≤◌}
-use mathlib.Core.Path.{◌∙◌}
-use native.Mathlib.Omega.{arith}
-use borrow.Author.Tests.{not-true, not-false}
-use Rattle.test_lines.proofs.Reading.{Standing, standing_start, stands, standing_next, not_formed, formed_by}
+use Rattle.test_lines.proofs.Reading.{Standing}
 use Rattle.test_lines.proofs.line.is_formed.Given as goal
 
 abbrev pub invariant-loop-k : goal.invariant-loop-k

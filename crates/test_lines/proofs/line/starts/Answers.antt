@@ -1,10 +1,8 @@
 -- `test_lines::line::starts` meets its contract. The measure is how many bytes of the name are left. Assumes
 -- nothing.
-use Prim.Native.Nat.{◌-◌}
 use native.Mathlib.Omega.{arith}
 use mathlib.Core.Path.{refl}
-use lib.ListN.{length}
-use Rattle.test_lines.proofs.Reading.{Agrees, too_short, agrees_next, differs, agrees_end}
+use Rattle.test_lines.proofs.Reading.{too_short, agrees_next, differs, agrees_end}
 use Rattle.test_lines.proofs.line.starts.Goals as goal
 
 pub returns-then-line-name : goal.returns-then-line-name

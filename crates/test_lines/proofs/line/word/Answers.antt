@@ -1,7 +1,6 @@
 -- `test_lines::line::word` meets its contract. The measure is how many digits are left. Assumes nothing.
-use Prim.Native.Nat.{◌-◌}
 use native.Mathlib.Omega.{arith}
-use Rattle.test_lines.proofs.Reading.{Read, room, read_start, read_next, no_digit, read_end, no_room}
+use Rattle.test_lines.proofs.Reading.{room, read_start, read_next, no_digit, read_end, no_room}
 use Rattle.test_lines.proofs.line.word.Goals as goal
 
 pub returns-then-line-lt16 : goal.returns-then-line-lt16
