@@ -14,3 +14,10 @@ module _ {b said : Bool} (e : b ≡ said) where
 
   pub passed : not b ≡ false → said ≡ true
   passed h = sym e ∙ not-false _ h
+
+  -- the same, of the fact that Rattle gives of the test today
+  pub failed_plain : b ≡ false → said ≡ false
+  failed_plain h = sym e ∙ h
+
+  pub passed_plain : b ≡ true → said ≡ true
+  passed_plain h = sym e ∙ h

@@ -1,16 +1,16 @@
 use Rattle.std.proofs.Common.{◌≡◌, ℕ, ◌+◌, ◌-◌, ◌/◌, ◌<◌, ◌≤◌, true, false, sym, ◌∙◌, div-le_self, arith, rules}
 use native.Mathlib.Nat.{div-eq_of_lt, div-eq-sub-div}
-use Rattle.answers.proofs.Tests.{failed, passed}
+use Rattle.answers.proofs.Tests.{failed_plain, passed_plain}
 use Rattle.summary_counts.specs.Counts.{held_of, counts_fit}
 use Rattle.summary_counts.proofs.Fits.{Counted, counts_out}
 use Rattle.summary_counts.proofs.ending.Goals.{Else-not-is_fit}
 use Rattle.summary_counts.proofs.ending.Goals as goal
 
 pub returns-then-not-is_fit : goal.returns-then-not-is_fit
-returns-then-not-is_fit c = rw (failed c.is_fit.ensures c.if-not-is_fit.true)
+returns-then-not-is_fit c = rw (failed_plain c.is_fit.ensures c.if-not-is_fit.true)
 
 fit : (c : Else-not-is_fit) → counts_fit c.args.c ≡ true
-fit c = passed c.is_fit.ensures c.if-not-is_fit.false
+fit c = passed_plain c.is_fit.ensures c.if-not-is_fit.false
 
 -- what is held, beside its period
 below : (c : Else-not-is_fit) → Counted c.args.c

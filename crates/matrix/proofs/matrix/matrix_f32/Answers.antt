@@ -5,18 +5,18 @@ use lib.ListN.{length}
 use lib.Ieee.{nan}
 use Rattle.answers.specs.Answer.{says, accepts}
 use Rattle.matrix.specs.Matrix.{left_f32, right_f32}
-use Rattle.answers.proofs.Tests.{failed, passed}
+use Rattle.answers.proofs.Tests.{failed_plain, passed_plain}
 use Rattle.matrix.proofs.Blocks.{lengths_equal, turned_back, carried_out}
 use Rattle.matrix.proofs.matrix.matrix_f32.Goals.{Else-not-is_accepted}
 use Rattle.matrix.proofs.matrix.matrix_f32.Goals as goal
 
 accepted : (c : Else-not-is_accepted) → accepts (says c.matrix_lengths-a.result) ≡ true
-accepted c = passed c.is_accepted.ensures c.if-not-is_accepted.false
+accepted c = passed_plain c.is_accepted.ensures c.if-not-is_accepted.false
 
 pub returns-then-not-is_accepted : goal.returns-then-not-is_accepted
 returns-then-not-is_accepted c =
     let a = c.args in
-    turned_back left_f32 right_f32 nan a.sum.now a.difference.now a.left-1.now a.right-1.now _ c.matrix_lengths-a.ensures (failed c.is_accepted.ensures c.if-not-is_accepted.true)
+    turned_back left_f32 right_f32 nan a.sum.now a.difference.now a.left-1.now a.right-1.now _ c.matrix_lengths-a.ensures (failed_plain c.is_accepted.ensures c.if-not-is_accepted.true)
 
 pub fill_f32-requires : goal.fill_f32-requires
 fill_f32-requires c =

@@ -1,4 +1,3 @@
-use borrow.Author.Rules.{rules}
 use mathlib.Core.Path.{◌≡◌, ap, ◌∙◌}
 use lib.Ieee.{Float}
 use Rattle.answers.specs.Answer.{first_cause, made, map_built}
@@ -6,8 +5,7 @@ use Rattle.answers.proofs.Causes.{map_built_lem}
 use Rattle.decoder_gains.specs.Gains.{gains_of, causes, common_of, says_common}
 use Rattle.decoder_gains.specs.declared.Checked.{Checked}
 use Rattle.decoder_record.specs.Fresh.{fresh_f32, new_f32_of}
-use Rattle.decoder_record.proofs.pll_f32.StereoPllF32.new.Statement.{statement}
-use Rattle.decoder_record.proofs.pll_f32.StereoPllF32.new.Tie as tie
+use Rattle.decoder_record.proofs.pll_f32.StereoPllF32.new.Goals as goal
 
 -- the decoder from the answer to its gains
 from : (pilot natural level beta rate : Float) (r : Checked) → says_common r ≡ common_of pilot natural level beta rate → map_built fresh_f32 (says_common r) ≡ new_f32_of pilot natural level beta rate
@@ -15,14 +13,11 @@ unfolding common_of new_f32_of
 from pilot natural level beta rate r h =
     ap (map_built fresh_f32) h ∙ map_built_lem fresh_f32 (first_cause (causes pilot natural level beta rate)) (gains_of pilot natural level beta rate)
 
-returns : tie.Need-returns
-returns c =
-    let k = c.before.before in
+pub returns-in-Good : goal.returns-in-Good
+returns-in-Good c =
+    let k = c in
     let m = k.before.before in
-    rw (← from _ _ _ _ _ m.common.result m.common.ensures, k.g.given.1) (ap made c.fresh.ensures)
+    rw (← from _ _ _ _ _ m.common.result m.common.ensures, k.in-Good.is) (ap made c.fresh.ensures)
 
-returns-2 : tie.Need-returns-2
-returns-2 c = let m = c.before.before.before in rw (← from _ _ _ _ _ m.common.result m.common.ensures, c.before.n.given.1)
-
-pub new_spec : {M : Type 1} → statement M
-new_spec = tie.close (tie.spec (λ c κs. search rules) (λ c. search rules) (λ c κs. search rules) (λ c. search rules) returns returns-2)
+pub returns-in-Refused : goal.returns-in-Refused
+returns-in-Refused c = let m = c in rw (← from _ _ _ _ _ m.common.result m.common.ensures, c.in-Refused.is)
