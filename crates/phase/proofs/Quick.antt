@@ -1,8 +1,8 @@
 -- The floor modulo 2^32 by one sum: v + 1.5 times 2^52 is rounded to a whole number, whose low digits are
 -- those of the nearest one to v, and one less where that lies above v. Assumes nothing.
-use Rattle.std.proofs.Common.{◌≡◌, ℕ, zero, suc, ◌+◌, ◌-◌, ◌*◌, ◌/◌, ◌%◌, ◌^◌, ◌<◌, ◌≤◌, Bool, true, false, cond, not, ◌&&◌, T, ltb, ℤ, pos, negsuc, neg_ℤ, sym, refl, ap, ◌∙◌, le_of_lt, add-mul, lt_of_mul-lt-mul_right, mul-one, arith, lit<, ltb→lt, lt→ltb, ltb-false, ltb-true, le-ltb, lt-ltb}
+use Rattle.std.proofs.Common.{◌≡◌, ℕ, zero, suc, ◌+◌, ◌-◌, ◌*◌, ◌/◌, ◌%◌, ◌^◌, ◌<◌, ◌≤◌, Bool, true, false, cond, not, T, ltb, ℤ, pos, neg_ℤ, sym, refl, ap, ◌∙◌, le_of_lt, add-mul, lt_of_mul-lt-mul_right, mul-one, arith, lit<, ltb→lt, lt→ltb, ltb-false, ltb-true, le-ltb, lt-ltb}
 use mathlib.Core.Bool.{false≢true}
-use lib.Ieee.{Float, nan, inf, fin, binary64, up, down, add, sub, mul, lt, below, round, is_nan, to_bits, to_signed}
+use lib.Ieee.{Float, nan, inf, fin, binary64, up, down, add, sub, lt, below, round, is_nan, to_bits, to_signed}
 use lib.Ieee.Exact.{HasValue}
 use lib.Ieee.Fits.{down_pos}
 use lib.Ieee.Nearest.{closest}

@@ -37,7 +37,7 @@ unfolding scan_of
 from_last pilot l =
     ap (λ (ps : List Float). read_of (reverse ps)) l.place
     ∙ ap read_of (turned_round l.before l.sample l.after)
-    ∙ read_on (reverse l.after) (l.sample ∷ reverse l.before) (all_reverse l.after l.rest-finite)
+    ∙ read_on (reverse l.after) (l.sample ∷ reverse l.before) (all_reverse l.after l.rest_finite)
     ∙ rw (l.not_finite, length-reverse l.after) (add-one (length l.after))
 
 pub all : (pilot : List Float) → all_finite pilot ≡ true → (scan_of pilot).read ≡ length pilot
@@ -53,7 +53,7 @@ last_by : (p : Float) (ps : List Float) (rest : Bool) → rest ≡ all_finite ps
 last_by p ps true e h later = record { before = []; sample = p; after = ps; place = refl; not_finite = sym (and-true (finite p)) ∙ h; rest_finite = sym e }
 last_by p ps false e h later =
     let l = later refl in
-    record { before = p ∷ l.before; sample = l.sample; after = l.after; place = ap (λ (r : List Float). p ∷ r) l.place; not_finite = l.not_finite; rest_finite = l.rest-finite }
+    record { before = p ∷ l.before; sample = l.sample; after = l.after; place = ap (λ (r : List Float). p ∷ r) l.place; not_finite = l.not_finite; rest_finite = l.rest_finite }
 
 last : (pilot : List Float) → all_finite pilot ≡ false → Last pilot
 last [] h = absurd (false≢true (sym h))

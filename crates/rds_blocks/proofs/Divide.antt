@@ -1,5 +1,5 @@
 -- The division's loop, step by step. Assumes nothing.
-use Prim.Native.Nat.{ℕ, suc, ◌+◌, ◌-◌, ◌*◌, ◌%◌, ◌^◌, ◌<◌, ◌≤◌}
+use Prim.Native.Nat.{ℕ, zero, suc, ◌+◌, ◌-◌, ◌*◌, ◌%◌, ◌^◌, ◌<◌, ◌≤◌}
 use native.Mathlib.Omega.{arith}
 use mathlib.Core.Path.{◌≡◌}
 use mathlib.Core.Bool.{true, false, cond}
@@ -10,6 +10,7 @@ use Rattle.rds_blocks.specs.Division.{bit, generator, lessened, divided_from}
 
 first : (n x : ℕ) → 0 < n → divided_from n x ≡ divided_from (n - 1) (lessened (n - 1) x)
 unfolding divided_from
+first zero x h = elim h [ ]
 first (suc n) x h = let e : suc n - 1 ≡ n = omega arith in rw e
 
 module _ (n x : ℕ) (some : 0 < n) where

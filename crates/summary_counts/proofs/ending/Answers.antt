@@ -1,4 +1,4 @@
-use Rattle.std.proofs.Common.{◌≡◌, ℕ, ◌+◌, ◌-◌, ◌/◌, ◌<◌, ◌≤◌, true, false, sym, ◌∙◌, div-le_self, arith, rules}
+use Rattle.std.proofs.Common.{◌≡◌, ℕ, ◌+◌, ◌-◌, ◌/◌, ◌<◌, ◌≤◌, true, sym, ◌∙◌, div-le_self, arith}
 use native.Mathlib.Nat.{div-eq_of_lt, div-eq-sub-div}
 use Rattle.answers.proofs.Tests.{failed_plain, passed_plain}
 use Rattle.summary_counts.specs.Counts.{held_of, counts_fit}

@@ -1,4 +1,4 @@
-use Rattle.std.proofs.Common.{ℕ, not, ◌&&◌, eqb, ltb, leb, ap, ◌∙◌, rules}
+use Rattle.std.proofs.Common.{ℕ, not, ◌&&◌, eqb, ltb, leb, ap, ◌∙◌}
 use mathlib.Core.Bool.{and_assoc}
 use Rattle.summary_counts.specs.Counts.{held_of, counts_fit}
 use Rattle.summary_counts.proofs.is_fit.Goals as goal

@@ -1,4 +1,3 @@
-use Rattle.std.proofs.Common.{rules}
 use Rattle.summary_counts.proofs.is_full.Goals as goal
 
 pub returns : goal.returns

@@ -1,4 +1,4 @@
-use Rattle.std.proofs.Common.{◌≡◌, true, sym, ap, ◌∙◌, rules}
+use Rattle.std.proofs.Common.{sym, ap, ◌∙◌}
 use lib.Ieee.{of_bits}
 use Rattle.phase.specs.Correction.{v_of}
 use Rattle.phase.specs.declared.correction.Quick.TheVariants.{Step}
@@ -18,9 +18,9 @@ pub returns-then-quick_serves : goal.returns-then-quick_serves
 unfolding of_bits
 returns-then-quick_serves c =
     let w = c.wrapping_sub_u32 in
-    let q = c in
-    ap Step (low_is (served c.before) w.result w.type_inv w.ensures) ∙ quick_by q.f32_to_f64.ensures (sym q.quick_serves.ensures ∙ c.if-quick_serves.true)
+    let q = c.before.before in
+    ap Step (low_is (served c.before) w.result w.type_inv w.ensures.value) ∙ quick_by q.f32_to_f64.ensures (sym q.quick_serves.ensures ∙ c.if-quick_serves.true)
 
 pub returns : goal.returns
 unfolding of_bits
-returns c = let q = c in quick_by q.f32_to_f64.ensures (sym q.quick_serves.ensures ∙ c.if-quick_serves.false)
+returns c = let q = c.before in quick_by q.f32_to_f64.ensures (sym q.quick_serves.ensures ∙ c.if-quick_serves.false)

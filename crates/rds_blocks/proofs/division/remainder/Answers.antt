@@ -1,7 +1,6 @@
-use Prim.Native.Nat.{◌≤◌}
-use mathlib.Core.Path.{◌≡◌, refl, sym, ◌∙◌}
+use mathlib.Core.Path.{refl, sym, ◌∙◌}
 use native.Mathlib.Omega.{arith}
-use Rattle.rds_blocks.specs.Division.{divided_from, remainder_of}
+use Rattle.rds_blocks.specs.Division.{remainder_of}
 use Rattle.rds_blocks.proofs.Divide.{taken, passed, finished}
 use Rattle.rds_blocks.proofs.division.remainder.Goals as goal
 

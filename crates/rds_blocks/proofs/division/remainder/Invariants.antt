@@ -1,8 +1,6 @@
 use Prim.Native.Nat.{◌≤◌}
-use mathlib.Core.Path.{◌≡◌, refl, sym, ◌∙◌}
-use native.Mathlib.Omega.{arith}
+use mathlib.Core.Path.{◌≡◌}
 use Rattle.rds_blocks.specs.Division.{divided_from, remainder_of}
-use Rattle.rds_blocks.proofs.Divide.{taken, passed, finished}
 use Rattle.rds_blocks.proofs.division.remainder.Given as goal
 
 abbrev pub invariant-loop-n : goal.invariant-loop-n
