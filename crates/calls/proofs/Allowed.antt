@@ -162,14 +162,14 @@ module _ {A D R Q N S T : Type 0} (K : Format A D R Q N S T) where
     abbrev pub AllowsSummary : SummaryLearnt A D S T → Type 0
     AllowsSummary B = (d : D) (s : Summary A) (b : Brought A) (c : Columns A) (a : Answer) → let r = own_summary F C.unsigned (K.state d) s b c in let e = r.columns in
         ◌≡◌ {A = Summarized A} (record { said = says a; sum = r.sum; difference = r.difference; columns = e; pll = r.pll; summary = r.summary }) r
-        → B more_lifetimes d (w.makeSummary s) (lent place b.table) (lent place b.mpx) (lent place b.pilot) (lent place b.first) (lent place b.second) (lent place c.stereo) (lent place c.mono) (lent place c.changes) (lent place c.magnitude) (w.replySummary d b a (w.make r.pll) (w.makeSummary r.summary)) (lent place r.sum) (lent place r.difference) (lent place e.stereo) (lent place e.mono) (lent place e.changes) (lent place e.magnitude)
+        → B more_lifetimes d (w.make_summary s) (lent place b.table) (lent place b.mpx) (lent place b.pilot) (lent place b.first) (lent place b.second) (lent place c.stereo) (lent place c.mono) (lent place c.changes) (lent place c.magnitude) (w.reply_summary d b a (w.make r.pll) (w.make_summary r.summary)) (lent place r.sum) (lent place r.difference) (lent place e.stereo) (lent place e.mono) (lent place e.changes) (lent place e.magnitude)
 
     some_summary : (B : SummaryLearnt A D S T) → AllowsSummary B → (d : D) (s : Summary A) (b : Brought A) (c : Columns A) → (l : Left A D) × LeavesSummary K B d s b c l
     some_summary B allows d s b c =
         let r = own_summary F C.unsigned (K.state d) s b c in
         let a = summary_sayable F C.unsigned s (says_of F (K.state d) b) (length b.mpx) c (own_sayable d b) in
-        let y = w.replySummary d b a.0 (w.make r.pll) (w.makeSummary r.summary) in
-        (_, (more_lifetimes, (place, place, place, place, place, place, place, place, place), w.makeSummary s, w.as-made s, y, r.sum, r.difference, r.columns, allows d s b c a.0 (rw (a.1 ∙ sym (summary_said F C.unsigned (K.state d) s b c))), refl))
+        let y = w.reply_summary d b a.0 (w.make r.pll) (w.make_summary r.summary) in
+        (_, (more_lifetimes, (place, place, place, place, place, place, place, place, place), w.make_summary s, w.as_made s, y, r.sum, r.difference, r.columns, allows d s b c a.0 (rw (a.1 ∙ sym (summary_said F C.unsigned (K.state d) s b c))), refl))
 
     -- each sort of block of a decoder leaves something
     record Something (W : Decoder A D) : Type 0 where
@@ -190,20 +190,20 @@ module _ {A D R Q N S T : Type 0} (K : Format A D R Q N S T) where
       some_run d [] = ([], tt)
       some_run d (c ∷ cs) = let l = one d c in let n = some_run l.0.decoder cs in (l.0 ∷ n.0, (l.1, n.1))
 
-    pub plainly : AllowsBlock K.plain_reply w.replyPlain K.plain → BlockRight K K.plain_reply K.plain → (d : D) (cs : List (Call A)) → (ls : List (Left A D)) × Runs K (plain_decoder K) d cs ls
+    pub plainly : AllowsBlock K.plain_reply w.reply_plain K.plain → BlockRight K K.plain_reply K.plain → (d : D) (cs : List (Call A)) → (ls : List (Left A D)) × Runs K (plain_decoder K) d cs ls
     plainly p right =
         some_run (plain_decoder K)
         (record {
-          blocks = λ d b. (left_by K.plain_reply w.replyPlain d b, some_block K.plain_reply w.replyPlain K.plain p d b);
-          mergeds = some_matrix K.plain_reply w.replyPlain K.plain p;
-          summaries = some_shown K.plain_reply w.replyPlain K.plain p right;
+          blocks = λ d b. (left_by K.plain_reply w.reply_plain d b, some_block K.plain_reply w.reply_plain K.plain p d b);
+          mergeds = some_matrix K.plain_reply w.reply_plain K.plain p;
+          summaries = some_shown K.plain_reply w.reply_plain K.plain p right;
         })
 
-    pub fastly : AllowsBlock K.fast_reply w.replyFast K.fast → AllowsMerged K.fast_reply w.replyFast K.merged → AllowsSummary K.summary → (d : D) (cs : List (Call A)) → (ls : List (Left A D)) × Runs K (fast_decoder K) d cs ls
+    pub fastly : AllowsBlock K.fast_reply w.reply_fast K.fast → AllowsMerged K.fast_reply w.reply_fast K.merged → AllowsSummary K.summary → (d : D) (cs : List (Call A)) → (ls : List (Left A D)) × Runs K (fast_decoder K) d cs ls
     fastly f m s =
         some_run (fast_decoder K)
         (record {
-          blocks = λ d b. (left_by K.fast_reply w.replyFast d b, some_block K.fast_reply w.replyFast K.fast f d b);
-          mergeds = some_merged K.fast_reply w.replyFast K.merged m;
+          blocks = λ d b. (left_by K.fast_reply w.reply_fast d b, some_block K.fast_reply w.reply_fast K.fast f d b);
+          mergeds = some_merged K.fast_reply w.reply_fast K.merged m;
           summaries = some_summary K.summary s;
         })

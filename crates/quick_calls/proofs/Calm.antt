@@ -107,8 +107,8 @@ module _ (t : List Float) (d : Pll Float) (p : Float) (h : unit_table t ≡ true
   v_within : Upto (2 ^ 52 - 1) (v_of (frequency_of f32 d e))
   v_within =
       let g = c.mild.proper in
-      let kp-value = plain kp g.kp-finite g.kp-plus in
-      let imax-value = plain imax g.imax-finite g.imax-plus in
+      let kp-value = plain kp g.kp_finite g.kp_plus in
+      let imax-value = plain imax g.imax_finite g.imax_plus in
       let r = shares binary32 (2 ^ 19) kp imax most (num kp) (den kp) (num imax) (den imax) (den_pos kp) (den_pos imax) kp-value imax-value (lit< tt) (lit≤ tt) (holds c.mild.small) in
       let f = frequency_of f32 d e in
       let f-within = frequency_within r.0 r.1 r.2 r.3 r.4 in

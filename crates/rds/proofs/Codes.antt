@@ -1,5 +1,5 @@
 -- Differential coding: in parts, undone, and a loop that writes it. Assumes nothing.
-use Prim.Native.Nat.{ℕ, suc, ◌+◌, ◌-◌, ◌<◌, ◌≤◌}
+use Prim.Native.Nat.{ℕ, zero, suc, ◌-◌, ◌<◌, ◌≤◌}
 use native.Mathlib.Omega.{arith}
 use mathlib.Core.Path.{◌≡◌, refl, sym, ap, ap₂, subst, ◌∙◌}
 use mathlib.Core.Bool.{Bool, true, false, not, beq}
@@ -55,6 +55,7 @@ bits_bytes (x ∷ xs) = ap₂ ◌∷◌ (bit_byte x) (bits_bytes xs)
 -- ---- a number's first bit, and its last
 bits_first : (n x : ℕ) → 0 < n → bits_of n x ≡ bit (n - 1) x ∷ bits_of (n - 1) x
 unfolding bits_of
+bits_first zero x h = elim h [ ]
 bits_first (suc n) x h = let e : suc n - 1 ≡ n = omega arith in rw e
 
 bits_none : (n x : ℕ) → n ≤ 0 → bits_of n x ≡ []

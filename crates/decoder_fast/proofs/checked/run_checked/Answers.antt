@@ -1,0 +1,33 @@
+use mathlib.Core.Path.{sym, ◌∙◌}
+use Prim.Native.Nat.{◌-◌}
+use native.Mathlib.Omega.{arith}
+use lib.ListN.{length}
+use lib.Ieee.{nan}
+use Rattle.phase.specs.Correction.{is_wide}
+use Rattle.decoder_gains.specs.Gains.{nought}
+use Rattle.decoder.specs.F32.{f32}
+use Rattle.decoder_record.specs.Records.{pll_of_f32}
+use Rattle.decoder.proofs.Loops.{any_default}
+use Rattle.decoder_fast.proofs.Counting.{told, fits_next, Counting, counting_start, counting_next, counting_end}
+use Rattle.decoder_fast.proofs.checked.run_checked.Goals as goal
+
+pub loop-i-init : goal.loop-i-init
+loop-i-init c = let e = c.requires in counting_start f32 is_wide _ _ _ _ e.1 e.2
+
+pub overflow_add-wide : goal.overflow_add-wide
+overflow_add-wide c =
+    let a = c.args in
+    fits_next f32 is_wide a.table.now a.mpx.now a.pilot.now (pll_of_f32 a.d) c.loop-i.i c.step_checked-o.result.wide c.loop-i.invariant.wides c.loop-i-test.true c.good.1.1.0.1
+
+pub loop-i-preserved : goal.loop-i-preserved
+loop-i-preserved c =
+    let h = c.loop-i-test.true in
+    let a = c.args in
+    counting_next f32 is_wide a.table.now a.mpx.now a.pilot.now (pll_of_f32 a.d) c.loop-i.invariant h
+    (any_default a.mpx.now c.loop-i.i nan nought h)
+    (any_default a.pilot.now c.loop-i.i nan nought (omega (arith, c.requires.0)))
+    c.step_checked-o.ensures.0
+    (told c.loop-i.wide c.step_checked-o.result.wide c.step_checked-o.ensures.1)
+
+pub returns : goal.returns
+returns c = counting_end f32 is_wide _ _ _ _ c.loop-i.invariant c.loop-i-test.false
