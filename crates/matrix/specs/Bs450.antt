@@ -1,7 +1,7 @@
 -- What the matrix is for: it gives back left and right. Source: ITU-R BS.450, which sends M = (L + R)/2 and,
 -- on the subcarrier, S = (L - R)/2; the demodulator multiplies by the subcarrier's sine, which leaves half of
 -- S. Definitions only.
-use Rattle.std.specs.Prelude.{ℕ, ◌*◌, ◌<◌, Bool, cond, ◌≡◌, T, ℤ, pos, neg_ℤ, ◌+ℤ◌, ◌-ℤ◌, ◌*ℤ◌, Float}
+use Rattle.std.specs.Prelude.{ℕ, ◌*◌, ◌<◌, cond, ◌≡◌, T, ℤ, pos, neg_ℤ, ◌+ℤ◌, ◌-ℤ◌, ◌*ℤ◌, Float}
 use Rattle.std.specs.Float.{nan, inf, fin, binary32}
 use Rattle.std.specs.Float.Ieee.{up, down, fits, add}
 use Rattle.numbers.specs.Integers.{sat16_of}

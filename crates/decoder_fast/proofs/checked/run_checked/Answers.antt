@@ -17,7 +17,7 @@ loop-i-init c = let e = c.requires in counting_start f32 is_wide _ _ _ _ e.1 e.2
 pub overflow_add-wide : goal.overflow_add-wide
 overflow_add-wide c =
     let a = c.args in
-    fits_next f32 is_wide a.table.now a.mpx.now a.pilot.now (pll_of_f32 a.d) c.loop-i.i c.step_checked-o.result.wide c.loop-i.invariant.wides c.loop-i-test.true c.good.1.1.0.1
+    fits_next f32 is_wide a.table.now a.mpx.now a.pilot.now (pll_of_f32 a.d) c.loop-i.i c.step_checked-o.result.wide c.loop-i.invariant.wides c.loop-i-test.true c.well_formed.1.1.0.1
 
 pub loop-i-preserved : goal.loop-i-preserved
 loop-i-preserved c =
@@ -26,8 +26,10 @@ loop-i-preserved c =
     counting_next f32 is_wide a.table.now a.mpx.now a.pilot.now (pll_of_f32 a.d) c.loop-i.invariant h
     (any_default a.mpx.now c.loop-i.i nan nought h)
     (any_default a.pilot.now c.loop-i.i nan nought (omega (arith, c.requires.0)))
-    c.step_checked-o.ensures.0
-    (told c.loop-i.wide c.step_checked-o.result.wide c.step_checked-o.ensures.1)
+    c.step_checked-o.ensures.fact_1
+    (told c.loop-i.wide c.step_checked-o.result.wide c.step_checked-o.ensures.fact_2)
 
 pub returns : goal.returns
-returns c = counting_end f32 is_wide _ _ _ _ c.loop-i.invariant c.loop-i-test.false
+returns c =
+    let it = counting_end f32 is_wide _ _ _ _ c.loop-i.invariant c.loop-i-test.false in
+    record { fact_1 = it.0; fact_2 = it.1 }

@@ -15,10 +15,10 @@ returns-in-Step c =
     let a = c.args in
     let s = step_is a.f c.in-Step.step (sym c.correction_quick.ensures ∙ c.in-Step.is) in
     let same : a.wide ≡ a.wide + 0 = omega arith in
-    (ap (λ (r : Corrected). r.step) s, same ∙ ap (more a.wide) s)
+    record { fact_1 = ap (λ (r : Corrected). r.step) s; fact_2 = same ∙ ap (more a.wide) s }
 
 pub returns-in-Wide : goal.returns-in-Wide
 returns-in-Wide c =
     let a = c.args in
     let w = wide_is a.f c.correction_plain.result (sym c.correction_quick.ensures ∙ c.in-Wide.is) c.correction_plain.ensures in
-    (c.correction_plain.ensures, ap (more a.wide) w)
+    record { fact_1 = c.correction_plain.ensures; fact_2 = ap (more a.wide) w }

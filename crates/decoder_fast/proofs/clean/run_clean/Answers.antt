@@ -18,10 +18,8 @@ loop-i-init c = let e = c.requires in counting_start f32 is_wide _ _ _ _ e.1 e.2
 pub step_clean-o-requires : goal.step_clean-o-requires
 step_clean-o-requires c =
     let a = c.args in
-    let h = c.loop-i-test.true in (
-      each_finite a.pilot.now c.loop-i.i nan c.requires.3 (omega (arith, c.requires.0, h)),
-      room_next f32 is_wide a.table.now a.mpx.now a.pilot.now (pll_of_f32 a.d) c.loop-i.i c.loop-i.invariant.wides h c.good.1.1.0.1,
-    )
+    let h = c.loop-i-test.true in
+    record { fact_1 = each_finite a.pilot.now c.loop-i.i nan c.requires.3 (omega (arith, c.requires.0, h)); fact_2 = room_next f32 is_wide a.table.now a.mpx.now a.pilot.now (pll_of_f32 a.d) c.loop-i.i c.loop-i.invariant.wides h c.well_formed.1.1.0.1 }
 
 pub loop-i-preserved : goal.loop-i-preserved
 loop-i-preserved c =
@@ -30,8 +28,10 @@ loop-i-preserved c =
     counting_next f32 is_wide a.table.now a.mpx.now a.pilot.now (pll_of_f32 a.d) c.loop-i.invariant h
     (any_default a.mpx.now c.loop-i.i nan nought h)
     (any_default a.pilot.now c.loop-i.i nan nought (omega (arith, c.requires.0)))
-    c.step_clean-o.ensures.0
-    c.step_clean-o.ensures.1
+    c.step_clean-o.ensures.fact_1
+    c.step_clean-o.ensures.fact_2
 
 pub returns : goal.returns
-returns c = counting_end f32 is_wide _ _ _ _ c.loop-i.invariant c.loop-i-test.false
+returns c =
+    let it = counting_end f32 is_wide _ _ _ _ c.loop-i.invariant c.loop-i-test.false in
+    record { fact_1 = it.0; fact_2 = it.1 }

@@ -1,10 +1,8 @@
 use Prim.Native.Nat.{◌-◌, ◌≤◌}
-use mathlib.Core.Path.{refl, sym, ◌∙◌}
-use native.Mathlib.Omega.{arith}
 use lib.ListN.{length, get_or}
 use lib.Ieee.{nan}
 use Rattle.matrix.specs.Matrix.{left_f32, right_f32}
-use Rattle.answers.proofs.Samples.{Filled, filled_start, filled_next, filled_end}
+use Rattle.answers.proofs.Samples.{Filled}
 use Rattle.matrix.proofs.matrix.fill_f32.Given as goal
 
 abbrev pub invariant-loop-i : goal.invariant-loop-i

@@ -1,15 +1,10 @@
-use Prim.Native.Nat.{◌-◌, ◌≤◌}
-use mathlib.Core.Path.{sym, ◌∙◌}
+use mathlib.Core.Path.{◌∙◌}
 use native.Mathlib.Omega.{arith}
-use lib.ListN.{length, get_or}
+use lib.ListN.{get_or}
 use lib.IntN.{pos}
 use mir.Syntax.{w16}
 use Rattle.rounding.proofs.Lin.{back}
-use Rattle.matrix.specs.Matrix.{left_q15, right_q15}
-use Rattle.answers.proofs.Samples.{Filled, filled_start, filled_next, filled_end}
-use Rattle.matrix.proofs.matrix.fill_q15.Reads as reads
-use Rattle.matrix.proofs.matrix.left_q15.Reads as left-q15-reads
-use Rattle.matrix.proofs.matrix.right_q15.Reads as right-q15-reads
+use Rattle.answers.proofs.Samples.{filled_start, filled_next, filled_end}
 use Rattle.matrix.proofs.matrix.fill_q15.Goals as goal
 
 pub loop-i-init : goal.loop-i-init
@@ -28,12 +23,6 @@ loop-i-preserved c =
       filled_next k.loop-i.invariant.1 h (back w16 l.left_q15.result l.left_q15.type_inv ∙ l.left_q15.ensures ∙ rw (x, y)),
       filled_next k.loop-i.invariant.2 h (back w16 c.right_q15.result c.right_q15.type_inv ∙ c.right_q15.ensures ∙ rw (x, y)),
     )
-
-pub TODO-same-length : goal.TODO-same-length
-TODO-same-length c = c.loop-i.invariant.1.size ∙ sym c.requires.1
-
-pub TODO-same-length-2 : goal.TODO-same-length-2
-TODO-same-length-2 c = c.loop-i.invariant.2.size ∙ sym c.requires.2
 
 pub returns : goal.returns
 returns c = let k = c.loop-i.invariant in rw (filled_end k.1 k.0 c.loop-i-test.false, filled_end k.2 k.0 c.loop-i-test.false)

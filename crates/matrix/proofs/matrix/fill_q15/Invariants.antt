@@ -1,15 +1,8 @@
 use Prim.Native.Nat.{◌-◌, ◌≤◌}
-use mathlib.Core.Path.{sym, ◌∙◌}
-use native.Mathlib.Omega.{arith}
 use lib.ListN.{length, get_or}
 use lib.IntN.{pos}
-use mir.Syntax.{w16}
-use Rattle.rounding.proofs.Lin.{back}
 use Rattle.matrix.specs.Matrix.{left_q15, right_q15}
-use Rattle.answers.proofs.Samples.{Filled, filled_start, filled_next, filled_end}
-use Rattle.matrix.proofs.matrix.fill_q15.Reads as reads
-use Rattle.matrix.proofs.matrix.left_q15.Reads as left-q15-reads
-use Rattle.matrix.proofs.matrix.right_q15.Reads as right-q15-reads
+use Rattle.answers.proofs.Samples.{Filled}
 use Rattle.matrix.proofs.matrix.fill_q15.Given as goal
 
 abbrev pub invariant-loop-i : goal.invariant-loop-i

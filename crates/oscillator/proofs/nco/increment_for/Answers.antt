@@ -1,4 +1,4 @@
-use Rattle.std.proofs.Common.{◌≡◌, Bool, true, [], ◌∷◌, refl, ap, ◌∙◌, rules}
+use Rattle.std.proofs.Common.{◌≡◌, Bool, true, [], ◌∷◌, refl, ap, ◌∙◌}
 use lib.Ieee.{Float, binary64, div}
 use lib.Ieee.Scale.{finite}
 use Rattle.answers.specs.Answer.{rule, first_cause, made, built_by}

@@ -1,4 +1,4 @@
-use Rattle.std.proofs.Common.{◌∙◌, w64, rules}
+use Rattle.std.proofs.Common.{◌∙◌, w64}
 use lib.Ieee.{of_bits}
 use Rattle.rounding.proofs.Lin.{back}
 use Rattle.oscillator.specs.Oscillator.{increment_of}

@@ -1,4 +1,4 @@
-use Rattle.std.proofs.Common.{◌≡◌, ℕ, ◌+◌, ◌*◌, ◌/◌, ◌%◌, ◌^◌, ◌<◌, ◌≤◌, sym, ap, ◌∙◌, add-mul, mul-le-mul, div-add-mod', mul_right_comm, arith, rules}
+use Rattle.std.proofs.Common.{◌≡◌, ℕ, ◌+◌, ◌*◌, ◌/◌, ◌%◌, ◌^◌, ◌<◌, ◌≤◌, sym, ap, ◌∙◌, add-mul, mul-le-mul, div-add-mod', mul_right_comm, arith}
 use Rattle.oscillator.specs.Oscillator.{phase_set}
 use Rattle.oscillator.proofs.nco.Nco.advance.Goals as goal
 
@@ -22,9 +22,9 @@ module _ (p n inc : ℕ) where
       go a b c e = omega arith
 
 pub overflow_mul-added : goal.overflow_mul-added
-overflow_mul-added c = record { fits = small c.args.n c.args.self.inc c.struct_known-1.given.1.0.fits }
+overflow_mul-added c = record { fits = small c.args.n c.args.self.inc (omega arith) }
 
 pub returns : goal.returns
 returns c =
     let a = c.args in
-    ap (λ (p : ℕ). phase_set a.self p) (c.wrapping_add_u32.ensures ∙ on a.self.phase a.n a.self.inc)
+    ap (λ (p : ℕ). phase_set a.self p) (c.wrapping_add_u32.ensures.value ∙ on a.self.phase a.n a.self.inc)
