@@ -6,7 +6,7 @@ use mathlib.Core.Bool.{true, false}
 use mathlib.Core.List.{List, [], ◌∷◌, map}
 use lib.ListN.{length}
 use contract.Lifetimes.{Lfts}
-use denote.Ref.{Bor}
+use Rattle.std.specs.Borrow.{Bor, MutBor}
 use Rattle.answers.specs.Answer.{Said, accepted, turned, lengths, accepts, made, map_built, kept}
 use Rattle.answers.proofs.Causes.{made_same}
 use Rattle.decoder_record.specs.State.{Pll, enabled_of, reset_of}
@@ -17,7 +17,7 @@ use Rattle.summary_call.specs.Summary.{Columns, columns_of, Outcome, Running, Su
 use Rattle.summary_record.proofs.Fits.{Unsigned}
 use Rattle.calls.specs.Events.{Event, after}
 use Rattle.calls.specs.Calls.{Core, Brought, Call, block, merged, summary, enable, disable, reset, Left, leaving, leaving_summary, done, call_of, machine, final, events}
-use Rattle.calls.specs.Demand.{lent, Arguments, Answered, BlockLearnt, SummaryLearnt, Decoder, Format, Constructed, seen, Leaves, MatrixOf, LeavesSummary, SummaryBy, plain_decoder, fast_decoder, OwnMatrix, OwnSummary, May, Runs, last_record, After, Demand}
+use Rattle.calls.specs.Demand.{lent, lent_out, Arguments, Answered, BlockLearnt, SummaryLearnt, Decoder, Format, Constructed, seen, Leaves, MatrixOf, LeavesSummary, SummaryBy, plain_decoder, fast_decoder, OwnMatrix, OwnSummary, May, Runs, last_record, After, Demand}
 use Rattle.calls.proofs.Events.{final_after}
 use Rattle.calls.proofs.History.{stereo_locked, locked_stereo}
 use Rattle.calls.proofs.Steps.{says_of, own_block, block_said, block_ran, summary_ran, blocked_in, shown_steps}
@@ -31,16 +31,16 @@ module _ {A D R Q N S T : Type 0} (K : Format A D R Q N S T) where
 
   -- what a caller of a block learns is the machine's block, and of a merged one the machine's merged block
   abbrev pub BlockRight : {X : Type 0} → (X → Answered D) → BlockLearnt A D X → Type 0
-  BlockRight {X} parts B = (κs : Lfts 5) (d : D) (t x p y z : Bor (List A)) (r : X) (y' z' : Bor (List A)) → B κs d t x p y z r y' z'
+  BlockRight {X} parts B = (κs : Lfts 5) (d : D) (t x p : Bor (List A)) (y z : MutBor (List A)) (r : X) (y' z' : MutBor (List A)) → B κs d t x p y z r y' z'
       → record { said = (parts r).said; sum = y'.now; difference = z'.now; pll = K.state (parts r).decoder } ≡ block_of F (K.state d) t.now x.now p.now y.now z.now
 
   abbrev pub MergedRight : {X : Type 0} → (X → Answered D) → BlockLearnt A D X → Type 0
-  MergedRight {X} parts B = (κs : Lfts 5) (d : D) (t x p y z : Bor (List A)) (r : X) (y' z' : Bor (List A)) → B κs d t x p y z r y' z'
+  MergedRight {X} parts B = (κs : Lfts 5) (d : D) (t x p : Bor (List A)) (y z : MutBor (List A)) (r : X) (y' z' : MutBor (List A)) → B κs d t x p y z r y' z'
       → record { said = (parts r).said; left = y'.now; right = z'.now; pll = K.state (parts r).decoder } ≡ merged_of F C.matrix (K.state d) t.now x.now p.now y.now z.now
 
   abbrev pub SummaryRight : SummaryLearnt A D S T → Type 0
-  SummaryRight B = (κs : Lfts 9) (d : D) (s : S) (t x p y z : Bor (List A)) (e f g : Bor (List ℕ)) (m : Bor (List A))
-      (r : T) (y' z' : Bor (List A)) (e' f' g' : Bor (List ℕ)) (m' : Bor (List A)) → B κs d s t x p y z e f g m r y' z' e' f' g' m'
+  SummaryRight B = (κs : Lfts 9) (d : D) (s : S) (t x p : Bor (List A)) (y z : MutBor (List A)) (e f g : MutBor (List ℕ)) (m : MutBor (List A))
+      (r : T) (y' z' : MutBor (List A)) (e' f' g' : MutBor (List ℕ)) (m' : MutBor (List A)) → B κs d s t x p y z e f g m r y' z' e' f' g' m'
       → record {
         said = (K.replied r).said;
         sum = y'.now;
@@ -76,12 +76,12 @@ module _ {A D R Q N S T : Type 0} (K : Format A D R Q N S T) where
   pub block_leaves : {X : Type 0} (parts : X → Answered D) (B : BlockLearnt A D X) → BlockRight parts B → (d : D) (b : Brought A) (l : Left A D) → Leaves K parts B d b l → seen K l ≡ call_of C (K.state d) (block b)
   block_leaves parts B right d b l h =
       let w = h.1 in
-      ap (seen K) h.6 ∙ ap of_block (right h.0 d (lent w.0 b.table) (lent w.1 b.mpx) (lent w.2 b.pilot) (lent w.3 b.first) (lent w.4 b.second) h.2 (lent w.3 h.3) (lent w.4 h.4) h.5)
+      ap (seen K) h.6 ∙ ap of_block (right h.0 d (lent w.0 b.table) (lent w.1 b.mpx) (lent w.2 b.pilot) (lent_out w.3 b.first) (lent_out w.4 b.second) h.2 (lent_out w.3 h.3) (lent_out w.4 h.4) h.5)
 
   merged_leaves : {X : Type 0} (parts : X → Answered D) (B : BlockLearnt A D X) → MergedRight parts B → (d : D) (b : Brought A) (l : Left A D) → Leaves K parts B d b l → seen K l ≡ call_of C (K.state d) (merged b)
   merged_leaves parts B right d b l h =
       let w = h.1 in
-      ap (seen K) h.6 ∙ ap of_merged (right h.0 d (lent w.0 b.table) (lent w.1 b.mpx) (lent w.2 b.pilot) (lent w.3 b.first) (lent w.4 b.second) h.2 (lent w.3 h.3) (lent w.4 h.4) h.5)
+      ap (seen K) h.6 ∙ ap of_merged (right h.0 d (lent w.0 b.table) (lent w.1 b.mpx) (lent w.2 b.pilot) (lent_out w.3 b.first) (lent_out w.4 b.second) h.2 (lent_out w.3 h.3) (lent_out w.4 h.4) h.5)
 
   summary_leaves : (B : SummaryLearnt A D S T) → SummaryRight B
       → (d : D) (s : Summary A) (b : Brought A) (c : Columns A) (l : Left A D) → LeavesSummary K B d s b c l → seen K l ≡ call_of C (K.state d) (summary s b c)
@@ -89,7 +89,7 @@ module _ {A D R Q N S T : Type 0} (K : Format A D R Q N S T) where
       let w = h.1 in
       let e = h.7 in
       ap (seen K) h.9
-      ∙ ap of_summary (right h.0 d h.2 (lent w.0 b.table) (lent w.1 b.mpx) (lent w.2 b.pilot) (lent w.3 b.first) (lent w.4 b.second) (lent w.5 c.stereo) (lent w.6 c.mono) (lent w.7 c.changes) (lent w.8 c.magnitude) h.4 (lent w.3 h.5) (lent w.4 h.6) (lent w.5 e.stereo) (lent w.6 e.mono) (lent w.7 e.changes) (lent w.8 e.magnitude) h.8)
+      ∙ ap of_summary (right h.0 d h.2 (lent w.0 b.table) (lent w.1 b.mpx) (lent w.2 b.pilot) (lent_out w.3 b.first) (lent_out w.4 b.second) (lent_out w.5 c.stereo) (lent_out w.6 c.mono) (lent_out w.7 c.changes) (lent_out w.8 c.magnitude) h.4 (lent_out w.3 h.5) (lent_out w.4 h.6) (lent_out w.5 e.stereo) (lent_out w.6 e.mono) (lent_out w.7 e.changes) (lent_out w.8 e.magnitude) h.8)
       ∙ ap (λ (s : Summary A). call_of C (K.state d) (summary s b c)) h.3
 
   -- the matrix of what a block has left

@@ -18,7 +18,7 @@ use Rattle.summary_counts.specs.Counts.{places_of}
 use Rattle.summary_record.specs.Record.{Summary, summary_fit}
 use Rattle.summary_call.specs.Summary.{Columns, Summarized, summary_says}
 use Rattle.calls.specs.Calls.{Core, Brought, Call, block, merged, summary, enable, disable, reset, Left, leaving, done}
-use Rattle.calls.specs.Demand.{Place, lent, Answered, BlockLearnt, SummaryLearnt, Decoder, Format, Leaves, MatrixOf, LeavesSummary, SummaryBy, first_of, plain_decoder, fast_decoder, May, Runs}
+use Rattle.calls.specs.Demand.{Place, lent, lent_out, Answered, BlockLearnt, SummaryLearnt, Decoder, Format, Leaves, MatrixOf, LeavesSummary, SummaryBy, first_of, plain_decoder, fast_decoder, May, Runs}
 use Rattle.calls.proofs.Steps.{says_of, own_block, block_said, own_summary, summary_said, outcomes_in, steps_shown}
 use Rattle.calls.proofs.Agreement.{BlockRight, block_leaves}
 
@@ -105,12 +105,12 @@ module _ {A D R Q N S T : Type 0} (K : Format A D R Q N S T) where
       abbrev pub AllowsBlock : BlockLearnt A D X → Type 0
       AllowsBlock B = (d : D) (b : Brought A) (a : Answer) → let r = own_block F (K.state d) b in
           ◌≡◌ {A = Blocked A} (record { said = says a; sum = r.sum; difference = r.difference; pll = r.pll }) r
-          → B lifetimes d (lent place b.table) (lent place b.mpx) (lent place b.pilot) (lent place b.first) (lent place b.second) (reply d b a (w.make r.pll)) (lent place r.sum) (lent place r.difference)
+          → B lifetimes d (lent place b.table) (lent place b.mpx) (lent place b.pilot) (lent_out place b.first) (lent_out place b.second) (reply d b a (w.make r.pll)) (lent_out place r.sum) (lent_out place r.difference)
 
       abbrev pub AllowsMerged : BlockLearnt A D X → Type 0
       AllowsMerged B = (d : D) (b : Brought A) (a : Answer) → let r = merged_of F C.matrix (K.state d) b.table b.mpx b.pilot b.first b.second in
           ◌≡◌ {A = Merged A} (record { said = says a; left = r.left; right = r.right; pll = r.pll }) r
-          → B lifetimes d (lent place b.table) (lent place b.mpx) (lent place b.pilot) (lent place b.first) (lent place b.second) (reply d b a (w.make r.pll)) (lent place r.left) (lent place r.right)
+          → B lifetimes d (lent place b.table) (lent place b.mpx) (lent place b.pilot) (lent_out place b.first) (lent_out place b.second) (reply d b a (w.make r.pll)) (lent_out place r.left) (lent_out place r.right)
 
       -- a reply to a block, and what it then leaves
       abbrev reply_to : D → Brought A → Answered D
@@ -162,7 +162,7 @@ module _ {A D R Q N S T : Type 0} (K : Format A D R Q N S T) where
     abbrev pub AllowsSummary : SummaryLearnt A D S T → Type 0
     AllowsSummary B = (d : D) (s : Summary A) (b : Brought A) (c : Columns A) (a : Answer) → let r = own_summary F C.unsigned (K.state d) s b c in let e = r.columns in
         ◌≡◌ {A = Summarized A} (record { said = says a; sum = r.sum; difference = r.difference; columns = e; pll = r.pll; summary = r.summary }) r
-        → B more_lifetimes d (w.make_summary s) (lent place b.table) (lent place b.mpx) (lent place b.pilot) (lent place b.first) (lent place b.second) (lent place c.stereo) (lent place c.mono) (lent place c.changes) (lent place c.magnitude) (w.reply_summary d b a (w.make r.pll) (w.make_summary r.summary)) (lent place r.sum) (lent place r.difference) (lent place e.stereo) (lent place e.mono) (lent place e.changes) (lent place e.magnitude)
+        → B more_lifetimes d (w.make_summary s) (lent place b.table) (lent place b.mpx) (lent place b.pilot) (lent_out place b.first) (lent_out place b.second) (lent_out place c.stereo) (lent_out place c.mono) (lent_out place c.changes) (lent_out place c.magnitude) (w.reply_summary d b a (w.make r.pll) (w.make_summary r.summary)) (lent_out place r.sum) (lent_out place r.difference) (lent_out place e.stereo) (lent_out place e.mono) (lent_out place e.changes) (lent_out place e.magnitude)
 
     some_summary : (B : SummaryLearnt A D S T) → AllowsSummary B → (d : D) (s : Summary A) (b : Brought A) (c : Columns A) → (l : Left A D) × LeavesSummary K B d s b c l
     some_summary B allows d s b c =

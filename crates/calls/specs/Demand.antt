@@ -5,7 +5,7 @@
 -- proofs/Functions.antt names the functions of both formats, proofs/Demand.antt proves it.
 use Rattle.std.specs.Prelude.{ℕ, suc, ◌<◌, true, List, [], ◌∷◌, map, length, get_or, take, ◌≡◌, Float}
 use contract.Lifetimes.{Lfts}
-use Rattle.std.specs.Borrow.{Bor}
+use Rattle.std.specs.Borrow.{Bor, MutBor}
 use Rattle.answers.specs.Answer.{Said, accepted, accepts, Built, made, map_built, kept}
 use Rattle.matrix.specs.Matrix.{Matrixed}
 use Rattle.decoder_record.specs.State.{Pll}
@@ -16,12 +16,15 @@ use Rattle.summary_call.specs.Summary.{Columns, columns_of, Outcome, Running, be
 use Rattle.calls.specs.Events.{Event, history, Locked}
 use Rattle.calls.specs.Calls.{Core, Brought, Call, block, merged, summary, enable, disable, reset, Left, leaving, leaving_summary, done, machine, final, events}
 
--- a place in memory with a ghost name, and a slice that is lent there
+-- a place in memory with a ghost name, and a slice that is lent there: to be read, and to be written
 abbrev pub Place : Type 0
 Place = (ℕ × ℕ) × ℕ
 
 abbrev pub lent : {A : Type 0} → Place → List A → Bor (List A)
-lent w l = record { ref_ptr = w.0; ghost_name = w.1; now = l }
+lent w l = record { ref_ptr = w.0; now = l }
+
+abbrev pub lent_out : {A : Type 0} → Place → List A → MutBor (List A)
+lent_out w l = record { ref_ptr = w.0; ghost_name = w.1; now = l }
 
 -- construction's arguments
 pub record Arguments : Type 0 where
@@ -36,18 +39,18 @@ pub record Arguments : Type 0 where
 abbrev pub BlockLearnt : Type 0 → Type 0 → Type 0 → Type 1
 BlockLearnt A D R =
     Lfts 5 → D
-    → Bor (List A) → Bor (List A) → Bor (List A) → Bor (List A) → Bor (List A)
-    → R → Bor (List A) → Bor (List A) → Type 0
+    → Bor (List A) → Bor (List A) → Bor (List A) → MutBor (List A) → MutBor (List A)
+    → R → MutBor (List A) → MutBor (List A) → Type 0
 
 -- .. and of a block with summaries, of lifetimes, the two records, table, mpx, pilot, the six outputs, the reply,
 -- and the six outputs at exit
 abbrev pub SummaryLearnt : Type 0 → Type 0 → Type 0 → Type 0 → Type 1
 SummaryLearnt A D S T =
     Lfts 9 → D → S
-    → Bor (List A) → Bor (List A) → Bor (List A) → Bor (List A) → Bor (List A)
-    → Bor (List ℕ) → Bor (List ℕ) → Bor (List ℕ) → Bor (List A)
-    → T → Bor (List A) → Bor (List A)
-    → Bor (List ℕ) → Bor (List ℕ) → Bor (List ℕ) → Bor (List A) → Type 0
+    → Bor (List A) → Bor (List A) → Bor (List A) → MutBor (List A) → MutBor (List A)
+    → MutBor (List ℕ) → MutBor (List ℕ) → MutBor (List ℕ) → MutBor (List A)
+    → T → MutBor (List A) → MutBor (List A)
+    → MutBor (List ℕ) → MutBor (List ℕ) → MutBor (List ℕ) → MutBor (List A) → Type 0
 
 -- a block's reply by its parts: the answer, and the decoder's record D
 pub record Answered (D : Type 0) : Type 0 where
@@ -125,8 +128,8 @@ module _ {A D R Q N S T : Type 0} (K : Format A D R Q N S T) where
       (κs : Lfts 5) × (w : Place × Place × Place × Place × Place)
       × (r : X) × (first : List A) × (second : List A)
       × B κs d (lent w.0 b.table) (lent w.1 b.mpx) (lent w.2 b.pilot)
-      (lent w.3 b.first) (lent w.4 b.second)
-      r (lent w.3 first) (lent w.4 second)
+      (lent_out w.3 b.first) (lent_out w.4 b.second)
+      r (lent_out w.3 first) (lent_out w.4 second)
       × (l ≡ leaving (parts r).said first second (parts r).decoder)
 
   -- the merged block that a block makes: the matrix of the outputs that it leaves, or its refusal
@@ -144,10 +147,10 @@ module _ {A D R Q N S T : Type 0} (K : Format A D R Q N S T) where
       × (held : S) × (K.summary_state held ≡ s)
       × (r : T) × (sum : List A) × (difference : List A) × (e : Columns A)
       × B κs d held (lent w.0 b.table) (lent w.1 b.mpx) (lent w.2 b.pilot)
-      (lent w.3 b.first) (lent w.4 b.second)
-      (lent w.5 c.stereo) (lent w.6 c.mono) (lent w.7 c.changes) (lent w.8 c.magnitude)
-      r (lent w.3 sum) (lent w.4 difference)
-      (lent w.5 e.stereo) (lent w.6 e.mono) (lent w.7 e.changes) (lent w.8 e.magnitude)
+      (lent_out w.3 b.first) (lent_out w.4 b.second)
+      (lent_out w.5 c.stereo) (lent_out w.6 c.mono) (lent_out w.7 c.changes) (lent_out w.8 c.magnitude)
+      r (lent_out w.3 sum) (lent_out w.4 difference)
+      (lent_out w.5 e.stereo) (lent_out w.6 e.mono) (lent_out w.7 e.changes) (lent_out w.8 e.magnitude)
       × (let q = K.replied r in
       l ≡ leaving_summary q.said sum difference e (K.summary_state q.summary) q.decoder)
 
