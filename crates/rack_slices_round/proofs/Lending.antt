@@ -4,7 +4,7 @@ use Prim.Native.Nat.{ℕ, ◌+◌, ◌≤◌, ◌<◌, min}
 use native.Mathlib.Omega.{arith}
 use mathlib.Core.Path.{◌≡◌, refl, sym, ap, ◌∙◌}
 use mathlib.Core.List.{List, [], map}
-use denote.Ref.{Bor}
+use Rattle.std.specs.Borrow.{Bor, MutBor}
 use lib.ListN.{length, get_or, set, length-map, get_or-map}
 use lib.Seq.{map-set_same}
 use Rattle.decoder_record.specs.State.{Pll}
@@ -21,15 +21,18 @@ use Rattle.rack_slices_round.proofs.Working.{waits_at, even_queue, Working, work
 abbrev pub empty : {A : Type 0} → Bor (List A)
 empty = record { ref_ptr = (0, 0); now = [] }
 
+abbrev pub empty_out : {A : Type 0} → MutBor (List A)
+empty_out = record { ref_ptr = (0, 0); ghost_name = 0; now = [] }
+
 abbrev pub nothing : Waiting
 nothing = record { mpx = 0; pilot = 0; sum = 0; difference = 0 }
 
-abbrev pub slices_in : {A : Type 0} → List (Bor (List A)) → List (Bor (List A)) → List (Bor (List A)) → List (Bor (List A)) → Slices A
+abbrev pub slices_in : {A : Type 0} → List (Bor (List A)) → List (Bor (List A)) → List (MutBor (List A)) → List (MutBor (List A)) → Slices A
 slices_in x p y z = record { mpx = map (λ x. x.now) x; pilot = map (λ x. x.now) p; sum = map (λ x. x.now) y; difference = map (λ x. x.now) z }
 
 -- the first k decoders have had their turn, and what an accepted round knows
-pub record Lending {A D : Type 0} (F : Arithmetic A) (pll : D → Pll A) (share : ℕ) (t : List A) (ds₀ : List D) (x p y₀ z₀ : List (Bor (List A))) (ws : List Waiting)
-    (number k : ℕ) (y z : List (Bor (List A))) (ds : List D) : Type 0 where
+pub record Lending {A D : Type 0} (F : Arithmetic A) (pll : D → Pll A) (share : ℕ) (t : List A) (ds₀ : List D) (x p : List (Bor (List A))) (y₀ z₀ : List (MutBor (List A))) (ws : List Waiting)
+    (number k : ℕ) (y z : List (MutBor (List A))) (ds : List D) : Type 0 where
   pub places : length ds₀ ≡ 8
   pub eight : number ≤ 8
   pub even : Even number ws
@@ -39,12 +42,12 @@ pub record Lending {A D : Type 0} (F : Arithmetic A) (pll : D → Pll A) (share 
   pub sums_at : addresses_of y ≡ addresses_of y₀
   pub differences_at : addresses_of z ≡ addresses_of z₀
 
-module _ {A D : Type 0} {F : Arithmetic A} {pll : D → Pll A} {share : ℕ} {t : List A} {ds₀ : List D} {x p y₀ z₀ : List (Bor (List A))} {ws : List Waiting} {number : ℕ} where
+module _ {A D : Type 0} {F : Arithmetic A} {pll : D → Pll A} {share : ℕ} {t : List A} {ds₀ : List D} {x p : List (Bor (List A))} {y₀ z₀ : List (MutBor (List A))} {ws : List Waiting} {number : ℕ} where
   pub lending_start : length ds₀ ≡ 8 → number ≤ 8 → Even number ws → ws ≡ map waiting_of (queues_at (slices_in x p y₀ z₀))
       → Lending F pll share t ds₀ x p y₀ z₀ ws number 0 y₀ z₀ ds₀
   lending_start l h e w = record { places = l; eight = h; even = e; waits = w; working = working_start; sums_at = refl; differences_at = refl }
 
-  module _ {k : ℕ} {y z : List (Bor (List A))} {ds : List D} (i : Lending F pll share t ds₀ x p y₀ z₀ ws number k y z ds) where
+  module _ {k : ℕ} {y z : List (MutBor (List A))} {ds : List D} (i : Lending F pll share t ds₀ x p y₀ z₀ ws number k y z ds) where
     abbrev s : Slices A
     s = slices_in x p y₀ z₀
 
@@ -107,14 +110,14 @@ module _ {A D : Type 0} {F : Arithmetic A} {pll : D → Pll A} {share : ℕ} {t 
 
         -- its slices as they stand
         abbrev pub lent : Queue A
-        lent = record { mpx = (get_or x k empty).now; pilot = (get_or p k empty).now; sum = (get_or y k empty).now; difference = (get_or z k empty).now }
+        lent = record { mpx = (get_or x k empty).now; pilot = (get_or p k empty).now; sum = (get_or y k empty_out).now; difference = (get_or z k empty_out).now }
 
         lent_is : lent ≡ record { mpx = get_or s.mpx k []; pilot = get_or s.pilot k []; sum = get_or (map (λ x. x.now) y) k []; difference = get_or (map (λ x. x.now) z) k [] }
         lent_is = λ j. record {
           mpx = sym (there (λ x. x.now) x k empty [] in_mpx) j;
           pilot = sym (there (λ x. x.now) p k empty [] in_pilot) j;
-          sum = sym (there (λ x. x.now) y k empty [] in_sum) j;
-          difference = sym (there (λ x. x.now) z k empty [] in_difference) j;
+          sum = sym (there (λ x. x.now) y k empty_out [] in_sum) j;
+          difference = sym (there (λ x. x.now) z k empty_out [] in_difference) j;
         }
 
         pub lent_long : (length lent.pilot ≡ length lent.mpx) × (length lent.sum ≡ length lent.mpx) × (length lent.difference ≡ length lent.mpx)
@@ -130,9 +133,9 @@ module _ {A D : Type 0} {F : Arithmetic A} {pll : D → Pll A} {share : ℕ} {t 
         lent_own f d = turned_is i.working h place here f (pll d) (get_or-map pll ds k d) lent_is
 
         -- it has its turn
-        pub lending_next : (d r : D) (vy vz : Bor (List A)) {y' z' : List (Bor (List A))} {ds' : List D}
+        pub lending_next : (d r : D) (vy vz : MutBor (List A)) {y' z' : List (MutBor (List A))} {ds' : List D}
             → record { taken = min share (length lent.mpx); sum = vy.now; difference = vz.now; pll = pll r } ≡ turn_of F t share (pll (get_or ds k d)) lent
-            → vy.ref_ptr ≡ (get_or y k empty).ptr → vz.ref_ptr ≡ (get_or z k empty).ptr
+            → vy.ref_ptr ≡ (get_or y k empty_out).ref_ptr → vz.ref_ptr ≡ (get_or z k empty_out).ref_ptr
             → y' ≡ set y k vy → z' ≡ set z k vz → ds' ≡ set ds k r
             → Lending F pll share t ds₀ x p y₀ z₀ ws number (k + 1) y' z' ds'
         lending_next d r vy vz e ay az ey ez ed = record {
@@ -145,6 +148,6 @@ module _ {A D : Type 0} {F : Arithmetic A} {pll : D → Pll A} {share : ℕ} {t 
               (ap (map (λ x. x.now)) ey ∙ map_set (λ x. x.now) y k vy)
               (ap (map (λ x. x.now)) ez ∙ map_set (λ x. x.now) z k vz)
               (ap (map pll) ed ∙ map_set pll ds k r);
-          sums_at = ap addresses_of ey ∙ map-set_same (λ l. l.ptr) y k vy empty ay ∙ i.sums_at;
-          differences_at = ap addresses_of ez ∙ map-set_same (λ l. l.ptr) z k vz empty az ∙ i.differences_at;
+          sums_at = ap addresses_of ey ∙ map-set_same (λ l. l.ref_ptr) y k vy empty_out ay ∙ i.sums_at;
+          differences_at = ap addresses_of ez ∙ map-set_same (λ l. l.ref_ptr) z k vz empty_out az ∙ i.differences_at;
         }

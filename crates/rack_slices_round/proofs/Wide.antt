@@ -3,7 +3,7 @@ use Prim.Native.Nat.{ℕ, ◌+◌, ◌≤◌, ◌<◌}
 use native.Mathlib.Omega.{arith}
 use mathlib.Core.Path.{◌≡◌, sym, ap, ◌∙◌}
 use mathlib.Core.List.{List, [], map}
-use denote.Ref.{Bor}
+use Rattle.std.specs.Borrow.{Bor, MutBor}
 use lib.ListN.{length, get_or, set}
 use lib.Ieee.{Float}
 use Rattle.answers.proofs.Passes.{sample_at}
@@ -17,7 +17,7 @@ use Rattle.rack_round.proofs.Wide.{Wides, wides_as, wides_next, wides_past}
 use Rattle.rack_slices_round.specs.Slices.{Slices, queue_at, queues_at}
 use Rattle.rack_slices_round.proofs.Lending.{nothing, slices_in, Lending, place, wait, lent, lent_own}
 
-module _ {D : Type 0} {pll : D → Pll Float} {share number k : ℕ} {t : List Float} {ds₀ ds : List D} {x p y₀ z₀ y z : List (Bor (List Float))} {ws : List Waiting} {wide : List ℕ}
+module _ {D : Type 0} {pll : D → Pll Float} {share number k : ℕ} {t : List Float} {ds₀ ds : List D} {x p : List (Bor (List Float))} {y₀ z₀ y z : List (MutBor (List Float))} {ws : List Waiting} {wide : List ℕ}
     (j : Wides share t (map pll ds₀) (queues_at (slices_in x p y₀ z₀)) k wide) (i : Lending f32 pll share t ds₀ x p y₀ z₀ ws number k y z ds) (h : k < number) (d : D) where
   abbrev s : Slices Float
   s = slices_in x p y₀ z₀

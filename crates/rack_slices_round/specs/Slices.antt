@@ -1,7 +1,7 @@
 -- A round whose decoders have slices of their own: decoder k's are the k-th of four lists of slices. Source:
 -- document 02, request 6; that they lie so is our own choice (docs/DECISIONS.md). Definitions only.
 use Rattle.std.specs.Prelude.{ℕ, List, [], map, length, take, get_or}
-use Rattle.std.specs.Borrow.{Bor}
+use Rattle.std.specs.Borrow.{MutBor}
 use Rattle.answers.specs.Answer.{Said}
 use Rattle.answers.specs.Samples.{samples}
 use Rattle.decoder_record.specs.State.{Pll}
@@ -9,9 +9,9 @@ use Rattle.decoder.specs.Machine.{Arithmetic}
 use Rattle.rack_waiting.specs.Beside.{beside, over}
 use Rattle.rack_round.specs.Round.{Queue, turn_of, round_of}
 
--- where the slices of a list lie in memory
-abbrev pub addresses_of : {A : Type 0} → List (Bor (List A)) → List (ℕ × ℕ)
-addresses_of l = map (λ r. r.ptr) l
+-- where the slices of a list lie in memory, which are lent to be written
+abbrev pub addresses_of : {A : Type 0} → List (MutBor (List A)) → List (ℕ × ℕ)
+addresses_of l = map (λ r. r.ref_ptr) l
 
 -- four lists of slices
 pub record Slices (A : Type 0) : Type 0 where
