@@ -320,10 +320,18 @@ pub fn rattle() -> Declared {
     for file in rattle_files(|_| true) {
         let all = words(&without_line_comments(&read(&file)));
         for at in 0..all.len() {
-            let head = ["#", "[", "repr", "(", "C", ")", "]", "pub", "struct"];
-            if starts(&all[at..], &head) {
-                let name = &all[at + head.len()];
-                let open = at + head.len() + 1;
+            let head = ["#", "[", "repr", "(", "C", ")", "]"];
+            if !starts(&all[at..], &head) {
+                continue;
+            }
+            // other attributes may follow
+            let mut after = at + head.len();
+            while starts(&all[after..], &["#", "["]) {
+                after = closing(&all, after + 1);
+            }
+            if starts(&all[after..], &["pub", "struct"]) {
+                let name = &all[after + 2];
+                let open = after + 3;
                 let fields = rust_fields(&all[open..closing(&all, open)], &[]);
                 declared.fields(&in_c(name), fields);
             }
