@@ -1,8 +1,8 @@
 use Prim.Native.Nat.{ℕ, ◌-◌, ◌*◌, ◌≤◌, ◌<◌}
 use mathlib.Core.Path.{refl, ◌∙◌}
 use mathlib.Core.List.{map}
-use mathlib.Core.Logic.{⊎_elim}
 use native.Mathlib.Omega.{arith}
+use borrow.Author.Rules.{rules}
 use mir.Syntax.{w64}
 use mir.Val.{Fits}
 use lib.ListN.{length, length-map}
@@ -15,17 +15,52 @@ use Rattle.rack_round.proofs.Wide.{Wides, wides_start, wides_end}
 use Rattle.rack_slices_round.specs.Slices.{queues_at}
 use Rattle.rack_slices_round.proofs.Lending.{slices_in, Lending, lending_start, sums_kept, differences_kept, lending_end, lending_past, in_mpx, in_pilot, in_sum, in_difference, lent_long, lending_next}
 use Rattle.rack_slices_round.proofs.Wide.{wides_turned, wides_passed}
-use Rattle.rack_slices.proofs.work.Goals.{else-w-gt0, then-w-gt0}
+use Rattle.rack_slices.proofs.work.Goals.{then-w-gt0, else-w-gt0}
 use Rattle.rack_slices.proofs.work.Goals as goal
+
+pub loop-k-init : goal.loop-k-init
+loop-k-init c =
+    let p = c.requires in
+    (lending_start (search rules) p.fact_1 p.fact_2 p.fact_3, wides_start (length-map c.args.decoders pll_of_f32 ∙ search rules) (length_samples 8 _))
+
+pub bounds-mpx-k : goal.bounds-mpx-k
+bounds-mpx-k c = in_mpx c.loop-k.invariant.0 c.loop-k-test.true c.if-w-gt0.true
+
+pub bounds-pilot-k : goal.bounds-pilot-k
+bounds-pilot-k c = in_pilot c.loop-k.invariant.0 c.loop-k-test.true c.if-w-gt0.true
+
+pub bounds-sum-k : goal.bounds-sum-k
+bounds-sum-k c = in_sum c.loop-k.invariant.0 c.loop-k-test.true c.if-w-gt0.true
+
+pub bounds-sum-k-then-w-gt0 : goal.bounds-sum-k-then-w-gt0
+bounds-sum-k-then-w-gt0 c = in_sum c.loop-k.invariant.0 c.loop-k-test.true c.if-w-gt0.true
+
+pub bounds-difference-k : goal.bounds-difference-k
+bounds-difference-k c = in_difference c.loop-k.invariant.0 c.loop-k-test.true c.if-w-gt0.true
+
+pub bounds-difference-k-then-w-gt0 : goal.bounds-difference-k-then-w-gt0
+bounds-difference-k-then-w-gt0 c = in_difference c.loop-k.invariant.0 c.loop-k-test.true c.if-w-gt0.true
+
+pub turn-turned-requires : goal.turn-turned-requires
+turn-turned-requires c = lent_long c.loop-k.invariant.0 c.loop-k-test.true c.if-w-gt0.true
 
 pub loop-k-preserved : goal.loop-k-preserved
 loop-k-preserved c =
-    let (c.before.before) c.before.before in
     let i = c.loop-k.invariant in
-    elim c.if-w-gt0.branch [ then-w-gt0 g ↦ (
-      lending_next i.0 ((c.loop-k-test.taken)) g.if-w-gt0.true absent g.6.result.decoder _ _ g.6.ensures.0 refl refl g.8 g.9 g.10,
-      wides_turned i.1 i.0 ((c.loop-k-test.taken)) absent g.if-w-gt0.true g.6.ensures.1 g.11,
-    ) | else-w-gt0 g ↦ (
-      lending_past i.0 ((c.loop-k-test.taken)) absent g.if-w-gt0.false g.y-is g.2 g.3,
-      wides_passed i.1 i.0 ((c.loop-k-test.taken)) absent g.if-w-gt0.false g.4,
-    ) ]
+    let h = c.loop-k-test.true in
+    elim c.if-w-gt0.branch [
+      then-w-gt0 w ↦ (
+        lending_next i.0 h w.if-w-gt0.true absent w.turn-turned.result.decoder _ _ w.turn-turned.ensures.fact_1 refl refl w.sum-is w.difference-is w.next-is,
+        wides_turned i.1 i.0 h absent w.if-w-gt0.true w.turn-turned.ensures.fact_2 w.wide-is,
+      )
+    | else-w-gt0 w ↦ (
+        lending_past i.0 h absent w.if-w-gt0.false w.sum-is w.difference-is w.next-is,
+        wides_passed i.1 i.0 h absent w.if-w-gt0.false w.wide-is,
+      )
+    ]
+
+pub returns : goal.returns
+returns c =
+    let i = c.loop-k.invariant in
+    let e = c.loop-k-test.false in
+    record { fact_1 = (lending_end i.0 e, i.0.sums_at, i.0.differences_at); fact_2 = wides_end i.1 _ i.0.working.upto e }

@@ -10,8 +10,8 @@ use Rattle.rack_slices_q15.proofs.turn.Goals as goal
 pub returns : goal.returns
 returns c =
     let a = c.args in
-    let b = c.block in
+    let b = c.block-reply in
     turn_is q15 a.table.now a.share (pll_of_q15 a.d) (record { mpx = a.mpx.now; pilot = a.pilot.now; sum = a.sum.now; difference = a.difference.now })
-    (c.least-n.result - 0) {s = says b.result.answer} {vy = b.new.1.1.1.1.0} {vz = b.new.1.1.1.1.1.0}
+    (c.least-n.result - 0) {s = says b.result.answer} {vy = b.new.sum} {vz = b.new.difference}
     (sub-zero c.least-n.result ∙ c.least-n.ensures)
-    c.requires.1 c.requires.2 b.auto.1.1.1.1.0 b.auto.1.1.1.1.1.0 b.ensures
+    c.requires.1 c.requires.2 b.auto.sum b.auto.difference b.ensures

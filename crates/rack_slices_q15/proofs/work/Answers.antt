@@ -1,18 +1,52 @@
 use Prim.Native.Nat.{◌-◌, ◌<◌}
 use mathlib.Core.Path.{refl}
-use mathlib.Core.Logic.{⊎_elim}
 use native.Mathlib.Omega.{arith}
+use borrow.Author.Rules.{rules}
 use lib.ListN.{length}
 use Rattle.decoder_record_q15.specs.Records.{pll_of_q15}
 use Rattle.decoder_q15.specs.Q15.{q15}
 use Rattle.rack_q15.proofs.Absent.{absent}
 use Rattle.rack_round.proofs.Parts.{scaled, small, falls, next_fits}
 use Rattle.rack_slices_round.proofs.Lending.{Lending, lending_start, sums_kept, differences_kept, lending_end, lending_past, in_mpx, in_pilot, in_sum, in_difference, lent_long, lending_next}
-use Rattle.rack_slices_q15.proofs.work.Goals.{else-w-gt0, then-w-gt0}
+use Rattle.rack_slices_q15.proofs.work.Goals.{then-w-gt0, else-w-gt0}
 use Rattle.rack_slices_q15.proofs.work.Goals as goal
+
+pub loop-k-init : goal.loop-k-init
+loop-k-init c =
+    let p = c.requires in
+    lending_start (search rules) p.fact_1 p.fact_2 p.fact_3
+
+pub bounds-mpx-k : goal.bounds-mpx-k
+bounds-mpx-k c = in_mpx c.loop-k.invariant c.loop-k-test.true c.if-w-gt0.true
+
+pub bounds-pilot-k : goal.bounds-pilot-k
+bounds-pilot-k c = in_pilot c.loop-k.invariant c.loop-k-test.true c.if-w-gt0.true
+
+pub bounds-sum-k : goal.bounds-sum-k
+bounds-sum-k c = in_sum c.loop-k.invariant c.loop-k-test.true c.if-w-gt0.true
+
+pub bounds-sum-k-then-w-gt0 : goal.bounds-sum-k-then-w-gt0
+bounds-sum-k-then-w-gt0 c = in_sum c.loop-k.invariant c.loop-k-test.true c.if-w-gt0.true
+
+pub bounds-difference-k : goal.bounds-difference-k
+bounds-difference-k c = in_difference c.loop-k.invariant c.loop-k-test.true c.if-w-gt0.true
+
+pub bounds-difference-k-then-w-gt0 : goal.bounds-difference-k-then-w-gt0
+bounds-difference-k-then-w-gt0 c = in_difference c.loop-k.invariant c.loop-k-test.true c.if-w-gt0.true
+
+pub turn-after-requires : goal.turn-after-requires
+turn-after-requires c = lent_long c.loop-k.invariant c.loop-k-test.true c.if-w-gt0.true
 
 pub loop-k-preserved : goal.loop-k-preserved
 loop-k-preserved c =
-    let v = c.before.before in
     let i = c.loop-k.invariant in
-    elim c.if-w-gt0.branch [ then-w-gt0 g ↦ lending_next i ((c.loop-k-test.taken)) g.if-w-gt0.true absent g.6.result _ _ g.6.ensures refl refl g.7 g.8 g.9 | else-w-gt0 g ↦ lending_past i ((c.loop-k-test.taken)) absent g.if-w-gt0.false g.y-is g.2 g.3 ]
+    let h = c.loop-k-test.true in
+    elim c.if-w-gt0.branch [
+      then-w-gt0 w ↦ lending_next i h w.if-w-gt0.true absent w.turn-after.result _ _ w.turn-after.ensures refl refl w.sum-is w.difference-is w.next-is
+    | else-w-gt0 w ↦ lending_past i h absent w.if-w-gt0.false w.sum-is w.difference-is w.next-is
+    ]
+
+pub returns : goal.returns
+returns c =
+    let i = c.loop-k.invariant in
+    (lending_end i c.loop-k-test.false, i.sums_at, i.differences_at)
