@@ -12,8 +12,7 @@ returns-then-i-table c = let a = c.args in cos_q15_lacks a.table.now a.p c.if-i-
 
 pub returns : goal.returns
 returns c =
-    let e = c.before.before in
-    result_held w32 tt (both c) (shift_held w32 tt (both c)) ∙ sym (between_is (both c)) ∙ cos_q15_at e.args.table.now e.args.p e.if-i-table.false
+    result_held w32 tt (both c) (shift_held w32 tt (both c)) ∙ sym (between_is (both c)) ∙ cos_q15_at c.args.table.now c.args.p c.if-i-table.false
 
 pub overflow_cast-a : goal.overflow_cast-a
 overflow_cast-a c = let a = c.args in entry_fits w32 tt (entry_at a.table.now a.p) c.a-1.given

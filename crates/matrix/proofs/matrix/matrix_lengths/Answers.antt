@@ -5,7 +5,6 @@ use Rattle.matrix.proofs.matrix.matrix_lengths.Goals as goal
 
 pub returns : goal.returns
 returns c =
-    let i = c.before.before in
-    let a = i.args in
-    rw (c.then_output-2.ensures, c.then_output.ensures, i.then_input-a.ensures)
+    let a = c.args in
+    rw (c.then_output-2.ensures, c.then_output.ensures, c.then_input-a.ensures)
     (chained_is (input_rule a.sum a.difference) (output_rule a.sum a.left ∷ output_rule a.sum a.right ∷ []))

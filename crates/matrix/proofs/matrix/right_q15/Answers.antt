@@ -10,7 +10,6 @@ pub returns : goal.returns
 unfolding right_q15
 returns c =
     let one = c.q15_sub_sat in
-    let b = c.before.before in
     back w16 c.q15_sub_sat-2.result c.q15_sub_sat-2.type_inv
     ∙ c.q15_sub_sat-2.ensures
-    ∙ rw (back w16 one.result one.type_inv, one.ensures, to_z-of_z b.ranges.s, to_z-of_z b.ranges.d) (minus_twice b.args.s b.args.d b.ranges.s)
+    ∙ rw (back w16 one.result one.type_inv, one.ensures, to_z-of_z c.ranges.s, to_z-of_z c.ranges.d) (minus_twice c.args.s c.args.d c.ranges.s)

@@ -1,11 +1,10 @@
-use Rattle.std.proofs.Common.{◌≡◌, Bool, true, [], ◌∷◌, refl, ap, ◌∙◌}
+use Rattle.std.proofs.Common.{◌≡◌, Bool, [], ◌∷◌, refl, ap, ◌∙◌}
 use lib.Ieee.{Float, binary64, div}
 use lib.Ieee.Scale.{finite}
 use Rattle.answers.specs.Answer.{rule, first_cause, made, built_by}
 use Rattle.answers.proofs.Tests.{failed_plain, passed_plain}
 use Rattle.floats.specs.Floats.{positive}
 use Rattle.oscillator.specs.Oscillator.{increment_for, increment_of}
-use Rattle.oscillator.proofs.nco.increment_for.Goals.{Else-not-is_positive_f64}
 use Rattle.oscillator.proofs.nco.increment_for.Goals as goal
 
 -- the definition by the outcomes of its tests
@@ -14,20 +13,14 @@ says : (freq rate : Float) {a b : Bool} → positive rate ≡ a → finite (div 
 unfolding increment_for
 says freq rate p q = rw (p, q)
 
-good : (c : Else-not-is_positive_f64) → positive c.args.rate ≡ true
-good c = passed_plain c.is_positive_f64.ensures c.if-not-is_positive_f64.false
-
 pub returns-then-not-is_positive_f64 : goal.returns-then-not-is_positive_f64
-returns-then-not-is_positive_f64 c = let b = c.before in says b.args.freq b.args.rate (failed_plain b.is_positive_f64.ensures c.if-not-is_positive_f64.true) refl
+returns-then-not-is_positive_f64 c = says c.args.freq c.args.rate (failed_plain c.is_positive_f64.ensures c.if-not-is_positive_f64.true) refl
 
 pub returns-then-not-is_finite_f64 : goal.returns-then-not-is_finite_f64
 returns-then-not-is_finite_f64 c =
-    let b = c.before in
-    let a = b.args in
-    says a.freq a.rate (good b.before) (failed_plain b.is_finite_f64.ensures c.if-not-is_finite_f64.true)
+    says c.args.freq c.args.rate (passed_plain c.is_positive_f64.ensures c.if-not-is_positive_f64.false) (failed_plain c.is_finite_f64.ensures c.if-not-is_finite_f64.true)
 
 pub returns : goal.returns
 returns c =
-    let b = c.before.before in
-    let a = b.args in
-    ap made c.increment_of.ensures ∙ says a.freq a.rate (good b.before) (passed_plain b.is_finite_f64.ensures c.if-not-is_finite_f64.false)
+    ap made c.increment_of.ensures
+    ∙ says c.args.freq c.args.rate (passed_plain c.is_positive_f64.ensures c.if-not-is_positive_f64.false) (passed_plain c.is_finite_f64.ensures c.if-not-is_finite_f64.false)

@@ -18,9 +18,8 @@ pub returns-then-quick_serves : goal.returns-then-quick_serves
 unfolding of_bits
 returns-then-quick_serves c =
     let w = c.wrapping_sub_u32 in
-    let q = c.before.before in
-    ap Step (low_is (served c.before) w.result w.type_inv w.ensures.value) ∙ quick_by q.f32_to_f64.ensures (sym q.quick_serves.ensures ∙ c.if-quick_serves.true)
+    ap Step (low_is (served c.before) w.result w.type_inv w.ensures.value) ∙ quick_by c.f32_to_f64.ensures (sym c.quick_serves.ensures ∙ c.if-quick_serves.true)
 
 pub returns : goal.returns
 unfolding of_bits
-returns c = let q = c.before in quick_by q.f32_to_f64.ensures (sym q.quick_serves.ensures ∙ c.if-quick_serves.false)
+returns c = quick_by c.f32_to_f64.ensures (sym c.quick_serves.ensures ∙ c.if-quick_serves.false)

@@ -8,12 +8,10 @@ use Rattle.rds.proofs.former.send.Goals as goal
 
 pub loop-n-preserved : goal.loop-n-preserved
 loop-n-preserved c =
-    let l = c in
-    sending_next l.loop-n.invariant (omega arith) (omega (arith, l.loop-n.invariant.some)) (unlike_is l.loop-n.last c.has_place-bit.ensures) c.byte.ensures
+    sending_next c.loop-n.invariant (omega arith) (omega (arith, c.loop-n.invariant.some)) (unlike_is c.loop-n.last c.has_place-bit.ensures) c.byte.ensures
 
 pub returns : goal.returns
 returns c =
-    let b = c in
-    let a = b.args in
+    let a = c.args in
     sending_end c.loop-n.invariant (omega arith)
-    ∙ ap (sent_of a.previous) (ap (bits_of 26) b.block-x.ensures ∙ block_bits_lem a.word a.offset b.ranges.word.fits)
+    ∙ ap (sent_of a.previous) (ap (bits_of 26) c.block-x.ensures ∙ block_bits_lem a.word a.offset c.ranges.word.fits)

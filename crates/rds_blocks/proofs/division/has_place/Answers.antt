@@ -12,4 +12,4 @@ none : (k x : ℕ) → x < 2 ^ 32 → 32 ≤ k → bit k x ≡ false
 none k x h l = rw (div-eq_of_lt (lt_of_lt_of_le h (pow_mono l))) refl
 
 pub returns-else-k-lt32 : goal.returns-else-k-lt32
-returns-else-k-lt32 c = let b = c.before in sym (none b.args.k b.args.x b.ranges.x.fits (omega arith))
+returns-else-k-lt32 c = sym (none c.args.k c.args.x c.ranges.x.fits (omega arith))

@@ -10,13 +10,11 @@ loop-n-init c = (omega arith, refl)
 
 pub loop-n-preserved-then-has_place : goal.loop-n-preserved-then-has_place
 loop-n-preserved-then-has_place c =
-    let l = c.before.before.before in
-    (omega arith, taken _ _ (omega arith) l.loop-n.invariant.0 (sym c.has_place.ensures ∙ c.if-has_place.true) ∙ l.loop-n.invariant.1)
+    (omega arith, taken _ _ (omega arith) c.loop-n.invariant.0 (sym c.has_place.ensures ∙ c.if-has_place.true) ∙ c.loop-n.invariant.1)
 
 pub loop-n-preserved : goal.loop-n-preserved
 loop-n-preserved c =
-    let l = c.before.before.before in
-    (omega arith, passed _ _ (omega arith) (sym c.has_place.ensures ∙ c.if-has_place.false) ∙ l.loop-n.invariant.1)
+    (omega arith, passed _ _ (omega arith) (sym c.has_place.ensures ∙ c.if-has_place.false) ∙ c.loop-n.invariant.1)
 
 pub returns : goal.returns
-returns c = let l = c.before in sym (finished l.loop-n.n l.loop-n.x (omega arith)) ∙ l.loop-n.invariant.1
+returns c = sym (finished c.loop-n.n c.loop-n.x (omega arith)) ∙ c.loop-n.invariant.1

@@ -1,17 +1,16 @@
 -- The causes of the stereo part, then 16: `stereo` is what the stereo part's construction tells. Assumes nothing.
 use Prim.Native.Nat.{ℕ}
-use mathlib.Core.Path.{◌≡◌, sym, ap}
+use mathlib.Core.Path.{◌≡◌, sym}
 use mathlib.Core.Bool.{Bool}
 use mathlib.Core.List.{[], ◌∷◌}
 use lib.Ieee.{Float}
 use Rattle.answers.specs.Answer.{rule, first_cause, made, refused, built_by}
 use Rattle.answers.proofs.Causes.{none_yet, or_none, first_append, built_out, refused_stays}
-use Rattle.answers.proofs.Tests.{failed, passed}
+use Rattle.answers.proofs.Tests.{failed_plain, passed_plain}
 use Rattle.encoder_record.specs.Encode.{good_level, causes, encoder_of, new_of}
 use Rattle.encoder_record_rds.specs.EncodeRds.{new_rds_of}
 use Rattle.encoder_record.specs.declared.encode.StereoEncode.{StereoEncode}
 use Rattle.encoder_record_rds.specs.declared.rds.StereoEncodeRds.{StereoEncodeRds}
-use Rattle.std.proofs.Common.{not}
 use Rattle.encoder_record_rds.proofs.rds.StereoEncodeRds.new.Goals as goal
 
 module _ (frequency main pilot rds rate : Float) where
@@ -34,11 +33,11 @@ module _ (frequency main pilot rds rate : Float) where
 
 pub returns-then-not-good_level : goal.returns-then-not-good_level
 returns-then-not-good_level c =
-    after-made _ _ _ _ _ (rw c.in-Made.is at c.new.ensures) (failed c.good_level.ensures (ap not c.if-not-good_level.true))
+    after-made _ _ _ _ _ (rw c.in-Made.is at c.new.ensures) (failed_plain c.good_level.ensures c.if-not-good_level.true)
 
 pub returns-else-not-good_level : goal.returns-else-not-good_level
 returns-else-not-good_level c =
-    after-made _ _ _ _ _ (rw c.in-Made.is at c.new.ensures) (passed c.good_level.ensures (ap not c.if-not-good_level.false))
+    after-made _ _ _ _ _ (rw c.in-Made.is at c.new.ensures) (passed_plain c.good_level.ensures c.if-not-good_level.false)
 
 pub returns-in-Refused : goal.returns-in-Refused
 returns-in-Refused c = after-refused _ _ _ _ _ (rw c.in-Refused.is at c.new.ensures)
