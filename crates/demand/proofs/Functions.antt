@@ -142,22 +142,22 @@ Q15 = record {
 -- the machine over every list; and for any format at all, also one whose plain block is wrong, the plain
 -- decoder's merged block and its summaries are made from that block
 pub record Demand3 : Type 2 where
-  pub f32_make_callable : Callable 0 f32-make-kinds.ps f32-make-kinds.r f32-make-symbol.routine f32-make.Learnt
-  pub f32_plain_callable : Callable 5 f32-plain-kinds.ps f32-plain-kinds.r f32-plain-symbol.routine f32-plain.Learnt
-  pub f32_fast_callable : Callable 5 f32-fast-kinds.ps f32-fast-kinds.r f32-fast-symbol.routine f32-fast.Learnt
-  pub f32_merged_callable : Callable 5 f32-merged-kinds.ps f32-merged-kinds.r f32-merged-symbol.routine f32-merged.Learnt
-  pub f32_summary_callable : Callable 9 f32-summary-kinds.ps f32-summary-kinds.r f32-summary-symbol.routine f32-summary.Learnt
-  pub f32_enable_callable : Callable 0 f32-enable-kinds.ps f32-enable-kinds.r f32-enable-symbol.routine f32-enable.Learnt
-  pub f32_disable_callable : Callable 0 f32-disable-kinds.ps f32-disable-kinds.r f32-disable-symbol.routine f32-disable.Learnt
-  pub f32_reset_callable : Callable 0 f32-reset-kinds.ps f32-reset-kinds.r f32-reset-symbol.routine f32-reset.Learnt
-  pub q15_make_callable : Callable 0 q15-make-kinds.ps q15-make-kinds.r q15-make-symbol.routine q15-make.Learnt
-  pub q15_plain_callable : Callable 5 q15-plain-kinds.ps q15-plain-kinds.r q15-plain-symbol.routine q15-plain.Learnt
-  pub q15_fast_callable : Callable 5 q15-fast-kinds.ps q15-fast-kinds.r q15-fast-symbol.routine q15-fast.Learnt
-  pub q15_merged_callable : Callable 5 q15-merged-kinds.ps q15-merged-kinds.r q15-merged-symbol.routine q15-merged.Learnt
-  pub q15_summary_callable : Callable 9 q15-summary-kinds.ps q15-summary-kinds.r q15-summary-symbol.routine q15-summary.Learnt
-  pub q15_enable_callable : Callable 0 q15-enable-kinds.ps q15-enable-kinds.r q15-enable-symbol.routine q15-enable.Learnt
-  pub q15_disable_callable : Callable 0 q15-disable-kinds.ps q15-disable-kinds.r q15-disable-symbol.routine q15-disable.Learnt
-  pub q15_reset_callable : Callable 0 q15-reset-kinds.ps q15-reset-kinds.r q15-reset-symbol.routine q15-reset.Learnt
+  pub f32_make_callable : Callable 0 f32-make-kinds.ps f32-make-kinds.r f32-make-symbol.code f32-make-symbol.name f32-make.Learnt
+  pub f32_plain_callable : Callable 5 f32-plain-kinds.ps f32-plain-kinds.r f32-plain-symbol.code f32-plain-symbol.name f32-plain.Learnt
+  pub f32_fast_callable : Callable 5 f32-fast-kinds.ps f32-fast-kinds.r f32-fast-symbol.code f32-fast-symbol.name f32-fast.Learnt
+  pub f32_merged_callable : Callable 5 f32-merged-kinds.ps f32-merged-kinds.r f32-merged-symbol.code f32-merged-symbol.name f32-merged.Learnt
+  pub f32_summary_callable : Callable 9 f32-summary-kinds.ps f32-summary-kinds.r f32-summary-symbol.code f32-summary-symbol.name f32-summary.Learnt
+  pub f32_enable_callable : Callable 0 f32-enable-kinds.ps f32-enable-kinds.r f32-enable-symbol.code f32-enable-symbol.name f32-enable.Learnt
+  pub f32_disable_callable : Callable 0 f32-disable-kinds.ps f32-disable-kinds.r f32-disable-symbol.code f32-disable-symbol.name f32-disable.Learnt
+  pub f32_reset_callable : Callable 0 f32-reset-kinds.ps f32-reset-kinds.r f32-reset-symbol.code f32-reset-symbol.name f32-reset.Learnt
+  pub q15_make_callable : Callable 0 q15-make-kinds.ps q15-make-kinds.r q15-make-symbol.code q15-make-symbol.name q15-make.Learnt
+  pub q15_plain_callable : Callable 5 q15-plain-kinds.ps q15-plain-kinds.r q15-plain-symbol.code q15-plain-symbol.name q15-plain.Learnt
+  pub q15_fast_callable : Callable 5 q15-fast-kinds.ps q15-fast-kinds.r q15-fast-symbol.code q15-fast-symbol.name q15-fast.Learnt
+  pub q15_merged_callable : Callable 5 q15-merged-kinds.ps q15-merged-kinds.r q15-merged-symbol.code q15-merged-symbol.name q15-merged.Learnt
+  pub q15_summary_callable : Callable 9 q15-summary-kinds.ps q15-summary-kinds.r q15-summary-symbol.code q15-summary-symbol.name q15-summary.Learnt
+  pub q15_enable_callable : Callable 0 q15-enable-kinds.ps q15-enable-kinds.r q15-enable-symbol.code q15-enable-symbol.name q15-enable.Learnt
+  pub q15_disable_callable : Callable 0 q15-disable-kinds.ps q15-disable-kinds.r q15-disable-symbol.code q15-disable-symbol.name q15-disable.Learnt
+  pub q15_reset_callable : Callable 0 q15-reset-kinds.ps q15-reset-kinds.r q15-reset-symbol.code q15-reset-symbol.name q15-reset.Learnt
   pub own_matrix : {A D R Q N S T : Type 0} (K : Format A D R Q N S T) → OwnMatrix K
   pub own_summary_lem : {A D R Q N S T : Type 0} (K : Format A D R Q N S T) → OwnSummary K
   pub in_f32 : Demand F32

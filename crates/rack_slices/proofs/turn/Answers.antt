@@ -1,0 +1,21 @@
+use Prim.Native.Nat.{◌-◌}
+use native.Mathlib.Nat.{sub-zero}
+use mathlib.Core.Path.{◌∙◌}
+use lib.Ieee.{Float}
+use Rattle.counted.specs.Counted.{said_in}
+use Rattle.decoder_record.specs.Records.{pll_of_f32}
+use Rattle.decoder.specs.F32.{f32}
+use Rattle.rack_round.specs.Round.{Queue}
+use Rattle.rack_round.proofs.Wide.{turn_wide_lem}
+use Rattle.rack_slices_round.proofs.Turns.{turn_is}
+use Rattle.rack_slices.proofs.turn.Goals as goal
+
+pub returns : goal.returns
+returns c =
+    let a = c.args in
+    let b = c.block in
+    let q : Queue Float = record { mpx = a.mpx.now; pilot = a.pilot.now; sum = a.sum.now; difference = a.difference.now } in
+    let e = sub-zero c.least-n.result ∙ c.least-n.ensures in
+    record { fact_1 = turn_is f32 a.table.now a.share (pll_of_f32 a.d) q (c.least-n.result - 0)
+          {s = said_in b.result.answer} {vy = b.new.1.1.1.1.0} {vz = b.new.1.1.1.1.1.0} e
+          c.requires.1 c.requires.2 b.auto.1.1.1.1.0 b.auto.1.1.1.1.1.0 b.ensures.0; fact_2 = turn_wide_lem a.table.now a.share (pll_of_f32 a.d) q (c.least-n.result - 0) e c.wide_of.ensures b.ensures.1 }
