@@ -1,0 +1,30 @@
+use Prim.Native.Nat.{◌-◌, ◌≤◌}
+use mathlib.Core.Path.{◌≡◌, refl, sym, ◌∙◌}
+use mathlib.Core.List.{map, map-map}
+use native.Mathlib.Omega.{arith}
+use borrow.Author.Rules.{rules}
+use lib.ListN.{length, take, length-map, length-set}
+use Rattle.decoder_record_q15.specs.Records.{pll_of_q15}
+use Rattle.c_decoder.specs.Coded.{given_of}
+use Rattle.c_decoder_q15.specs.CodedQ15.{decoder_of_q15}
+use Rattle.rack_waiting.proofs.Loops.{mapped_end, converted_next}
+use Rattle.c_rack_q15.proofs.in_q15.all_given.Goals as goal
+
+pub loop-k-preserved : goal.loop-k-preserved
+loop-k-preserved c =
+    let t = c.before.before.before in
+    let i = t.loop-k.invariant in (
+      omega arith,
+      i.1,
+      simp length-set i.2,
+      converted_next (λ t. given_of (pll_of_q15 t)) decoder_of_q15 t.loop-k.k t.args.records t.loop-k.decoders _ c.given.result (omega (arith, i.1)) (omega (arith, i.2)) i.3 c.given.ensures,
+    )
+
+pub returns : goal.returns
+returns c =
+    let l = c.loop-k in
+    let xs = c.args.records in
+    mapped_end (λ t. given_of (pll_of_q15 t)) 8 l.k xs (map decoder_of_q15 l.decoders) l.invariant.1 (length-map l.decoders decoder_of_q15 ∙ l.invariant.2) c.loop-k-test.false l.invariant.3 ∙ sym (map-map given_of pll_of_q15 xs)
+
+pub loop-k-init : goal.loop-k-init
+loop-k-init c = (omega arith, search rules, refl, refl)
