@@ -6,7 +6,7 @@
  *     cc program.c -Iinclude -Ltarget/staticlib -lpescrondilu -lm
  *
  * (The library needs the C library's memcpy and memset and nothing else; -lm is for a program that
- * makes its table by cos.)
+ * makes its table by cos. It is compiled for x86-64-v2: SSE4.2 and POPCNT, which it does not test.)
  * host/c/receiver.c is an example.
  *
  * What the caller owes
