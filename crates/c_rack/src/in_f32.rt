@@ -83,14 +83,14 @@ pub extern "C" fn pescrondilu_f32_rack_round(
     }
         ≡ coded_round rack.number (flat_of f32 rack.number allowance table.now
         (map taken_of (map decoder_of_f32 rack.decoders)) waiting.decoders (record {
-          mpx = mpx.entry.now;
+          mpx = mpx.now;
           pilot = pilot.now;
           sum = sum.old;
           difference = difference.old;
         })) }
     ensures fact_2 { result.wide ≡ round_wide rack.number allowance table.now
         (map taken_of (map decoder_of_f32 rack.decoders)) (queues_of waiting.decoders (record {
-          mpx = mpx.entry.now;
+          mpx = mpx.now;
           pilot = pilot.now;
           sum = sum.old;
           difference = difference.old;

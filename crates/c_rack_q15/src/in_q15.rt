@@ -81,7 +81,7 @@ pub extern "C" fn pescrondilu_q15_rack_round(
     }
         ≡ coded_round rack.number (flat_of q15 rack.number allowance table.now
         (map taken_of (map decoder_of_q15 rack.decoders)) waiting.decoders (record {
-          mpx = mpx.entry.now;
+          mpx = mpx.now;
           pilot = pilot.now;
           sum = sum.old;
           difference = difference.old;

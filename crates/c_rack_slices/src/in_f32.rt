@@ -30,7 +30,7 @@ pub extern "C" fn pescrondilu_f32_rack_round_slices(
     }
         ≡ coded_slices rack.number (slices_of f32 rack.number allowance table.now
         (map taken_of (map decoder_of_f32 rack.decoders)) (record {
-          mpx = map (λ x. x.now) mpx.entry.now;
+          mpx = map (λ x. x.now) mpx.now;
           pilot = map (λ x. x.now) pilot.now;
           sum = map (λ x. x.now) sum.old;
           difference = map (λ x. x.now) difference.old;
@@ -39,7 +39,7 @@ pub extern "C" fn pescrondilu_f32_rack_round_slices(
         × (addresses_of difference.new ≡ addresses_of difference.old) }
     ensures fact_2 { result.wide ≡ round_wide rack.number allowance table.now
         (map taken_of (map decoder_of_f32 rack.decoders)) (queues_at (record {
-          mpx = map (λ x. x.now) mpx.entry.now;
+          mpx = map (λ x. x.now) mpx.now;
           pilot = map (λ x. x.now) pilot.now;
           sum = map (λ x. x.now) sum.old;
           difference = map (λ x. x.now) difference.old;

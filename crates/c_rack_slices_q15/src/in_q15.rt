@@ -30,7 +30,7 @@ pub extern "C" fn pescrondilu_q15_rack_round_slices(
     }
         ≡ coded_slices rack.number (slices_of q15 rack.number allowance table.now
         (map taken_of (map decoder_of_q15 rack.decoders)) (record {
-          mpx = map (λ x. x.now) mpx.entry.now;
+          mpx = map (λ x. x.now) mpx.now;
           pilot = map (λ x. x.now) pilot.now;
           sum = map (λ x. x.now) sum.old;
           difference = map (λ x. x.now) difference.old;

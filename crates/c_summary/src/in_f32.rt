@@ -97,7 +97,7 @@ pub extern "C" fn pescrondilu_f32_summary_block(
       sum = sum.new;
       difference = difference.new;
       columns = record {
-        stereo = stereo.exit.now;
+        stereo = stereo.new;
         mono = mono.new;
         changes = changes.new;
         magnitude = magnitude.new;
@@ -108,7 +108,7 @@ pub extern "C" fn pescrondilu_f32_summary_block(
         ≡ coded_summary (summary_of f32 unsigned_f32 (taken_of (decoder_of_f32 d)) (taken_summary (record_f32 s))
         table.now mpx.now pilot.now sum.old difference.old
         (record {
-          stereo = stereo.entry.now;
+          stereo = stereo.old;
           mono = mono.old;
           changes = changes.old;
           magnitude = magnitude.old;
@@ -116,7 +116,7 @@ pub extern "C" fn pescrondilu_f32_summary_block(
     ensures fact_2 { result.wide ≡ number_in (summary_count (taken_of (decoder_of_f32 d)) (taken_summary (record_f32 s))
         table.now mpx.now pilot.now sum.old difference.old
         (record {
-          stereo = stereo.entry.now;
+          stereo = stereo.old;
           mono = mono.old;
           changes = changes.old;
           magnitude = magnitude.old;

@@ -94,7 +94,7 @@ pub extern "C" fn pescrondilu_q15_summary_block(
       sum = sum.new;
       difference = difference.new;
       columns = record {
-        stereo = stereo.exit.now;
+        stereo = stereo.new;
         mono = mono.new;
         changes = changes.new;
         magnitude = magnitude.new;
@@ -105,7 +105,7 @@ pub extern "C" fn pescrondilu_q15_summary_block(
         ≡ coded_summary (summary_of q15 unsigned_q15 (taken_of (decoder_of_q15 d)) (taken_summary (record_q15 s))
         table.now mpx.now pilot.now sum.old difference.old
         (record {
-          stereo = stereo.entry.now;
+          stereo = stereo.old;
           mono = mono.old;
           changes = changes.old;
           magnitude = magnitude.old;

@@ -53,21 +53,21 @@ fn work(
       difference = difference.old;
     })) }
     ensures fact_1 { record {
-      sum = sum.exit.now;
+      sum = sum.new;
       difference = difference.new;
       decoders = map pll_of_f32 result.decoders;
     }
         ≡ worked_of f32 number table.now share (map pll_of_f32 decoders) parts (record {
-          mpx = mpx.entry.now;
+          mpx = mpx.now;
           pilot = pilot.now;
-          sum = sum.entry.now;
+          sum = sum.old;
           difference = difference.old;
         }) }
     ensures fact_2 { result.wide ≡ over (beside (turn_wide table.now share) number (map pll_of_f32 decoders)
         (queues_of parts (record {
-          mpx = mpx.entry.now;
+          mpx = mpx.now;
           pilot = pilot.now;
-          sum = sum.entry.now;
+          sum = sum.old;
           difference = difference.old;
         }))) (replicate 8 0) }
 {
@@ -121,14 +121,14 @@ pub fn round(
       decoders = map pll_of_f32 result.decoders;
     }
         ≡ flat_of f32 number allowance table.now (map pll_of_f32 decoders) waiting (record {
-          mpx = mpx.entry.now;
+          mpx = mpx.now;
           pilot = pilot.now;
           sum = sum.old;
           difference = difference.old;
         }) }
     ensures fact_2 { result.wide ≡ round_wide number allowance table.now (map pll_of_f32 decoders)
         (queues_of waiting (record {
-          mpx = mpx.entry.now;
+          mpx = mpx.now;
           pilot = pilot.now;
           sum = sum.old;
           difference = difference.old;

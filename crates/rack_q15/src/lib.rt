@@ -57,14 +57,14 @@ fn work(
       difference = difference.old;
     })) }
     ensures { record {
-      sum = sum.exit.now;
+      sum = sum.new;
       difference = difference.new;
       decoders = map pll_of_q15 result;
     }
         ≡ worked_of q15 number table.now share (map pll_of_q15 decoders) parts (record {
-          mpx = mpx.entry.now;
+          mpx = mpx.now;
           pilot = pilot.now;
-          sum = sum.entry.now;
+          sum = sum.old;
           difference = difference.old;
         }) }
 {
@@ -112,7 +112,7 @@ pub fn round(
       decoders = map pll_of_q15 result.decoders;
     }
         ≡ flat_of q15 number allowance table.now (map pll_of_q15 decoders) waiting (record {
-          mpx = mpx.entry.now;
+          mpx = mpx.now;
           pilot = pilot.now;
           sum = sum.old;
           difference = difference.old;

@@ -26,7 +26,7 @@ fn lengths(
     difference: &mut [&mut [f32]],
 ) -> [Waiting; 8]
     ensures { (result ≡ map waiting_of (queues_at (record {
-      mpx = map (λ x. x.now) mpx.entry.now;
+      mpx = map (λ x. x.now) mpx.now;
       pilot = map (λ x. x.now) pilot.now;
       sum = map (λ x. x.now) sum.old;
       difference = map (λ x. x.now) difference.old;
@@ -91,19 +91,19 @@ fn turn(
         × (length sum.old ≡ length mpx.now)
         × (length difference.old ≡ length mpx.now) }
     ensures fact_1 { record {
-      taken = min share (length mpx.entry.now);
+      taken = min share (length mpx.now);
       sum = sum.new;
       difference = difference.new;
       pll = pll_of_f32 result.decoder;
     }
         ≡ turn_of f32 table.now share (pll_of_f32 d) (record {
-          mpx = mpx.entry.now;
+          mpx = mpx.now;
           pilot = pilot.now;
           sum = sum.old;
           difference = difference.old;
         }) }
     ensures fact_2 { result.wide ≡ turn_wide table.now share (pll_of_f32 d) (record {
-      mpx = mpx.entry.now;
+      mpx = mpx.now;
       pilot = pilot.now;
       sum = sum.old;
       difference = difference.old;
@@ -147,23 +147,23 @@ fn work(
       difference = map (λ x. x.now) difference.old;
     })) }
     ensures fact_1 { (record {
-      sum = map (λ x. x.now) sum.exit.now;
+      sum = map (λ x. x.now) sum.new;
       difference = map (λ x. x.now) difference.new;
       decoders = map pll_of_f32 result.decoders;
     }
         ≡ worked_of f32 number table.now share (map pll_of_f32 decoders) (record {
-          mpx = map (λ x. x.now) mpx.entry.now;
+          mpx = map (λ x. x.now) mpx.now;
           pilot = map (λ x. x.now) pilot.now;
-          sum = map (λ x. x.now) sum.entry.now;
+          sum = map (λ x. x.now) sum.old;
           difference = map (λ x. x.now) difference.old;
         }))
-        × (addresses_of sum.exit.now ≡ addresses_of sum.entry.now)
+        × (addresses_of sum.new ≡ addresses_of sum.old)
         × (addresses_of difference.new ≡ addresses_of difference.old) }
     ensures fact_2 { result.wide ≡ over (beside (turn_wide table.now share) number (map pll_of_f32 decoders)
         (queues_at (record {
-          mpx = map (λ x. x.now) mpx.entry.now;
+          mpx = map (λ x. x.now) mpx.now;
           pilot = map (λ x. x.now) pilot.now;
-          sum = map (λ x. x.now) sum.entry.now;
+          sum = map (λ x. x.now) sum.old;
           difference = map (λ x. x.now) difference.old;
         }))) (replicate 8 0) }
 {
@@ -209,7 +209,7 @@ pub fn round(
       decoders = map pll_of_f32 result.decoders;
     }
         ≡ slices_of f32 number allowance table.now (map pll_of_f32 decoders) (record {
-          mpx = map (λ x. x.now) mpx.entry.now;
+          mpx = map (λ x. x.now) mpx.now;
           pilot = map (λ x. x.now) pilot.now;
           sum = map (λ x. x.now) sum.old;
           difference = map (λ x. x.now) difference.old;
@@ -218,7 +218,7 @@ pub fn round(
         × (addresses_of difference.new ≡ addresses_of difference.old) }
     ensures fact_2 { result.wide ≡ round_wide number allowance table.now (map pll_of_f32 decoders)
         (queues_at (record {
-          mpx = map (λ x. x.now) mpx.entry.now;
+          mpx = map (λ x. x.now) mpx.now;
           pilot = map (λ x. x.now) pilot.now;
           sum = map (λ x. x.now) sum.old;
           difference = map (λ x. x.now) difference.old;

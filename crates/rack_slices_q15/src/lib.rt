@@ -23,7 +23,7 @@ fn lengths(
     difference: &mut [&mut [i16]],
 ) -> [Waiting; 8]
     ensures { (result ≡ map waiting_of (queues_at (record {
-      mpx = map (λ x. x.now) mpx.entry.now;
+      mpx = map (λ x. x.now) mpx.now;
       pilot = map (λ x. x.now) pilot.now;
       sum = map (λ x. x.now) sum.old;
       difference = map (λ x. x.now) difference.old;
@@ -74,13 +74,13 @@ fn turn(
         × (length sum.old ≡ length mpx.now)
         × (length difference.old ≡ length mpx.now) }
     ensures { record {
-      taken = min share (length mpx.entry.now);
+      taken = min share (length mpx.now);
       sum = sum.new;
       difference = difference.new;
       pll = pll_of_q15 result;
     }
         ≡ turn_of q15 table.now share (pll_of_q15 d) (record {
-          mpx = mpx.entry.now;
+          mpx = mpx.now;
           pilot = pilot.now;
           sum = sum.old;
           difference = difference.old;
@@ -119,17 +119,17 @@ fn work(
       difference = map (λ x. x.now) difference.old;
     })) }
     ensures { (record {
-      sum = map (λ x. x.now) sum.exit.now;
+      sum = map (λ x. x.now) sum.new;
       difference = map (λ x. x.now) difference.new;
       decoders = map pll_of_q15 result;
     }
         ≡ worked_of q15 number table.now share (map pll_of_q15 decoders) (record {
-          mpx = map (λ x. x.now) mpx.entry.now;
+          mpx = map (λ x. x.now) mpx.now;
           pilot = map (λ x. x.now) pilot.now;
-          sum = map (λ x. x.now) sum.entry.now;
+          sum = map (λ x. x.now) sum.old;
           difference = map (λ x. x.now) difference.old;
         }))
-        × (addresses_of sum.exit.now ≡ addresses_of sum.entry.now)
+        × (addresses_of sum.new ≡ addresses_of sum.old)
         × (addresses_of difference.new ≡ addresses_of difference.old) }
 {
     let mut next = decoders;
@@ -168,7 +168,7 @@ pub fn round(
       decoders = map pll_of_q15 result.decoders;
     }
         ≡ slices_of q15 number allowance table.now (map pll_of_q15 decoders) (record {
-          mpx = map (λ x. x.now) mpx.entry.now;
+          mpx = map (λ x. x.now) mpx.now;
           pilot = map (λ x. x.now) pilot.now;
           sum = map (λ x. x.now) sum.old;
           difference = map (λ x. x.now) difference.old;

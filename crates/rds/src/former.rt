@@ -93,7 +93,7 @@ fn byte(b: bool) -> u8
 // A block's 26 bits, the highest first, each exclusive-or the output bit before it; the last output bit.
 fn send(previous: bool, word: u16, offset: Offset, output: &mut [u8]) -> bool
     requires { length output.old ≡ 26 }
-    ensures { record { output = output.exit.now; carried = result }
+    ensures { record { output = output.new; carried = result }
         ≡ sent_of previous (block_bits word offset) }
 {
     let x = block(word, offset);
@@ -112,7 +112,7 @@ fn send(previous: bool, word: u16, offset: Offset, output: &mut [u8]) -> bool
 // A group's four blocks.
 fn send_blocks(carried: bool, words: RdsWords, output: &mut [u8]) -> bool
     requires { length output.old ≡ 104 }
-    ensures { record { output = output.exit.now; carried = result } ≡ sent_of carried (plain_of words) }
+    ensures { record { output = output.new; carried = result } ≡ sent_of carried (plain_of words) }
 {
     let one = send(carried, words.one, Offset::A, &mut output[0..26]);
     let two = send(one, words.two, Offset::B, &mut output[26..52]);
@@ -124,9 +124,9 @@ fn send_blocks(carried: bool, words: RdsWords, output: &mut [u8]) -> bool
 pub fn group(former: RdsFormer, words: RdsWords, output: &mut [u8]) -> GroupReply
     ensures { record {
       said = says_group result.answer;
-      sent = record { output = output.exit.now; carried = result.former.carried };
+      sent = record { output = output.new; carried = result.former.carried };
     }
-        ≡ group_of former.carried words output.entry.now }
+        ≡ group_of former.carried words output.old }
 {
     let n = output.len();
     if n != BITS {
