@@ -78,4 +78,3 @@ returns c =
     done (pll_of_f32 a.d) a.table.now a.mpx.now a.pilot.now a.sum.now a.difference.now (says c.block_lengths-answer.result)
     c.block_lengths-answer.ensures c.is_accepted.ensures c.if-not-is_accepted.false
     (rw c.full_table-cosines.ensures at r.fact_1, rw c.full_table-cosines.ensures at r.fact_2)
-

@@ -70,8 +70,7 @@ loop-k-preserved c =
     let h = c.loop-k-test.true in
     let k = c.loop-k.k in
     let here = place k c.args.number c.args.parts h c.requires.fact_1 i.0 in
-    let b = c.block-reply in
-    (
+    let b = c.block-reply in (
       i.0,
       i.1,
       simp length-set i.2,

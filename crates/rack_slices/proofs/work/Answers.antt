@@ -49,11 +49,11 @@ loop-k-preserved c =
     let i = c.loop-k.invariant in
     let h = c.loop-k-test.true in
     elim c.if-w-gt0.branch [
-      then-w-gt0 w ↦ (
+      | then-w-gt0 w ↦ (
         lending_next i.0 h w.if-w-gt0.true absent w.turn-turned.result.decoder _ _ w.turn-turned.ensures.fact_1 refl refl w.sum-is w.difference-is w.next-is,
         wides_turned i.1 i.0 h absent w.if-w-gt0.true w.turn-turned.ensures.fact_2 w.wide-is,
       )
-    | else-w-gt0 w ↦ (
+      | else-w-gt0 w ↦ (
         lending_past i.0 h absent w.if-w-gt0.false w.sum-is w.difference-is w.next-is,
         wides_passed i.1 i.0 h absent w.if-w-gt0.false w.wide-is,
       )

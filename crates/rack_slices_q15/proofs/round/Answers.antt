@@ -40,8 +40,7 @@ returns-then-not-is_accepted c =
     let a = c.args in
     let l = c.lengths-waiting in
     let s : Slices ℤ = slices_in a.mpx.now a.pilot.now a.sum.now a.difference.now in
-    let eight : length a.decoders ≡ 8 = search rules in
-    (
+    let eight : length a.decoders ≡ 8 = search rules in (
       refused (answered a.number a.allowance a.table.now a.decoders s (says c.round_answer-answer.result) c.fit_records.result l.result eight c.fit_records.ensures l.ensures.0 c.round_answer-answer.ensures) (failed c.is_accepted.ensures (ap not c.if-not-is_accepted.true)) (ap (map (λ x. x.now)) l.ensures.1) (ap (map (λ x. x.now)) l.ensures.2),
       ap addresses_of l.ensures.1,
       ap addresses_of l.ensures.2,
@@ -69,8 +68,7 @@ returns c =
     -- the slices once their lengths are read
     let read : Slices ℤ = slices_in a.mpx.now a.pilot.now l.new.sum l.new.difference in
     let same : read ≡ s = λ j. record { mpx = s.mpx; pilot = s.pilot; sum = map (λ x. x.now) (l.ensures.1 j); difference = map (λ x. x.now) (l.ensures.2 j) } in
-    let w = c.work-next.ensures in
-    (
+    let w = c.work-next.ensures in (
       carried_out (answered a.number a.allowance a.table.now a.decoders s (says c.round_answer-answer.result) c.fit_records.result l.result eight c.fit_records.ensures l.ensures.0 c.round_answer-answer.ensures) {s' = read} (passed c.is_accepted.ensures (ap not c.if-not-is_accepted.false)) same c.taken.ensures w.0,
       w.1 ∙ ap addresses_of l.ensures.1,
       w.2 ∙ ap addresses_of l.ensures.2,

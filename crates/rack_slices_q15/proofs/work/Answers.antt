@@ -42,8 +42,8 @@ loop-k-preserved c =
     let i = c.loop-k.invariant in
     let h = c.loop-k-test.true in
     elim c.if-w-gt0.branch [
-      then-w-gt0 w ↦ lending_next i h w.if-w-gt0.true absent w.turn-after.result _ _ w.turn-after.ensures refl refl w.sum-is w.difference-is w.next-is
-    | else-w-gt0 w ↦ lending_past i h absent w.if-w-gt0.false w.sum-is w.difference-is w.next-is
+      | then-w-gt0 w ↦ lending_next i h w.if-w-gt0.true absent w.turn-after.result _ _ w.turn-after.ensures refl refl w.sum-is w.difference-is w.next-is
+      | else-w-gt0 w ↦ lending_past i h absent w.if-w-gt0.false w.sum-is w.difference-is w.next-is
     ]
 
 pub returns : goal.returns

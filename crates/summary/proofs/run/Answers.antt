@@ -50,10 +50,10 @@ loop-i-preserved c =
     let ep : get_or a.pilot.now l.i nan ≡ get_or a.pilot.now l.i nought = any_default a.pilot.now l.i nan nought (omega (arith, c.requires.fact_1.0, h)) in
     let wides = wide_next f32 is_wide a.table.now a.mpx.now a.pilot.now (pll_of_f32 a.d) l.i l.invariant.0 l.invariant.1.going.state ep (told l.wide c.step_checked-o.result.wide c.step_checked-o.ensures.fact_2) in
     elim c.if-is_full.branch [
-      then-is_full w ↦
+      | then-is_full w ↦
           rw (w.stereos-is, w.monos-is, w.changes-is, w.magnitudes-is, w.counts-is, w.magnitude-is, w.k-is, w.empty-counts.ensures)
           (wides, noting_full f32 unsigned_f32 unsigned_f32_lem a.table.now a.mpx.now a.pilot.now (pll_of_f32 a.d) (summary_of_f32 a.s) l.invariant.1 h ex ep c.step_checked-o.ensures.fact_1 refl c.counted-counts.ensures.fact_2 c.larger-magnitude.ensures (sym c.is_full.ensures ∙ w.if-is_full.true))
-    | else-is_full w ↦
+      | else-is_full w ↦
           rw (w.stereos-is, w.monos-is, w.changes-is, w.magnitudes-is, w.counts-is, w.magnitude-is, w.k-is)
           (wides, noting_on f32 unsigned_f32 unsigned_f32_lem a.table.now a.mpx.now a.pilot.now (pll_of_f32 a.d) (summary_of_f32 a.s) l.invariant.1 h ex ep c.step_checked-o.ensures.fact_1 refl c.counted-counts.ensures.fact_2 c.larger-magnitude.ensures (sym c.is_full.ensures ∙ w.if-is_full.false))
     ]

@@ -21,8 +21,8 @@ returns-then-not-is_accepted c =
     let held : Columns ℤ = record { stereo = a.stereos.now; mono = a.monos.now; changes = a.changes.now; magnitude = a.magnitudes.now } in
     -- what the block itself would answer
     let own : says c.block_answer-own.result ≡ block_says q15 (pll_of_q15 a.d) (length a.table.now) (length a.mpx.now) (length a.pilot.now) (length a.sum.now) (length a.difference.now) =
-        c.block_answer-own.ensures
-        ∙ ap (λ (b : Bool). first_cause (rule 0 b ∷ length_causes (length a.table.now) (length a.mpx.now) (length a.pilot.now) (length a.sum.now) (length a.difference.now))) c.is_fit.ensures in
+    c.block_answer-own.ensures
+    ∙ ap (λ (b : Bool). first_cause (rule 0 b ∷ length_causes (length a.table.now) (length a.mpx.now) (length a.pilot.now) (length a.sum.now) (length a.difference.now))) c.is_fit.ensures in
     turned_back q15 unsigned_q15 (pll_of_q15 a.d) (summary_of_q15 a.s) a.table.now a.mpx.now a.pilot.now a.sum.now a.difference.now held c.is_fit-2.ensures own c.summary_answer-answer.ensures c.is_accepted.ensures (ap not c.if-not-is_accepted.true)
 
 pub full_table-cosines-requires : goal.full_table-cosines-requires
@@ -31,8 +31,8 @@ full_table-cosines-requires c =
     let held : Columns ℤ = record { stereo = a.stereos.now; mono = a.monos.now; changes = a.changes.now; magnitude = a.magnitudes.now } in
     -- what the block itself would answer
     let own : says c.block_answer-own.result ≡ block_says q15 (pll_of_q15 a.d) (length a.table.now) (length a.mpx.now) (length a.pilot.now) (length a.sum.now) (length a.difference.now) =
-        c.block_answer-own.ensures
-        ∙ ap (λ (b : Bool). first_cause (rule 0 b ∷ length_causes (length a.table.now) (length a.mpx.now) (length a.pilot.now) (length a.sum.now) (length a.difference.now))) c.is_fit.ensures in
+    c.block_answer-own.ensures
+    ∙ ap (λ (b : Bool). first_cause (rule 0 b ∷ length_causes (length a.table.now) (length a.mpx.now) (length a.pilot.now) (length a.sum.now) (length a.difference.now))) c.is_fit.ensures in
     (asked q15 unsigned_q15 (pll_of_q15 a.d) (summary_of_q15 a.s) a.table.now a.mpx.now a.pilot.now a.sum.now a.difference.now held c.is_fit-2.ensures own c.summary_answer-answer.ensures c.is_accepted.ensures (ap not c.if-not-is_accepted.false)).table
 
 pub run-requires : goal.run-requires
@@ -41,8 +41,8 @@ run-requires c =
     let held : Columns ℤ = record { stereo = a.stereos.now; mono = a.monos.now; changes = a.changes.now; magnitude = a.magnitudes.now } in
     -- what the block itself would answer
     let own : says c.block_answer-own.result ≡ block_says q15 (pll_of_q15 a.d) (length a.table.now) (length a.mpx.now) (length a.pilot.now) (length a.sum.now) (length a.difference.now) =
-        c.block_answer-own.ensures
-        ∙ ap (λ (b : Bool). first_cause (rule 0 b ∷ length_causes (length a.table.now) (length a.mpx.now) (length a.pilot.now) (length a.sum.now) (length a.difference.now))) c.is_fit.ensures in
+    c.block_answer-own.ensures
+    ∙ ap (λ (b : Bool). first_cause (rule 0 b ∷ length_causes (length a.table.now) (length a.mpx.now) (length a.pilot.now) (length a.sum.now) (length a.difference.now))) c.is_fit.ensures in
     let h : not c.is_accepted.result ≡ false = ap not c.if-not-is_accepted.false in
     let g = asked q15 unsigned_q15 (pll_of_q15 a.d) (summary_of_q15 a.s) a.table.now a.mpx.now a.pilot.now a.sum.now a.difference.now held c.is_fit-2.ensures own c.summary_answer-answer.ensures c.is_accepted.ensures h in
     record { fact_1 = g.even; fact_2 = g.filled; fact_3 = fit_summary q15 unsigned_q15 (pll_of_q15 a.d) (summary_of_q15 a.s) a.table.now a.mpx.now a.pilot.now a.sum.now a.difference.now held c.is_fit-2.ensures own c.summary_answer-answer.ensures c.is_accepted.ensures h; fact_4 = g.fit_record }
@@ -53,6 +53,6 @@ returns c =
     let held : Columns ℤ = record { stereo = a.stereos.now; mono = a.monos.now; changes = a.changes.now; magnitude = a.magnitudes.now } in
     -- what the block itself would answer
     let own : says c.block_answer-own.result ≡ block_says q15 (pll_of_q15 a.d) (length a.table.now) (length a.mpx.now) (length a.pilot.now) (length a.sum.now) (length a.difference.now) =
-        c.block_answer-own.ensures
-        ∙ ap (λ (b : Bool). first_cause (rule 0 b ∷ length_causes (length a.table.now) (length a.mpx.now) (length a.pilot.now) (length a.sum.now) (length a.difference.now))) c.is_fit.ensures in
+    c.block_answer-own.ensures
+    ∙ ap (λ (b : Bool). first_cause (rule 0 b ∷ length_causes (length a.table.now) (length a.mpx.now) (length a.pilot.now) (length a.sum.now) (length a.difference.now))) c.is_fit.ensures in
     carried_out q15 unsigned_q15 (pll_of_q15 a.d) (summary_of_q15 a.s) a.table.now a.mpx.now a.pilot.now a.sum.now a.difference.now held c.is_fit-2.ensures own c.summary_answer-answer.ensures c.is_accepted.ensures (ap not c.if-not-is_accepted.false) (rw c.full_table-cosines.ensures at c.run.ensures)

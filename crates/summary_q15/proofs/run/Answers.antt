@@ -52,7 +52,7 @@ sampled t mpx pilot st next i difference magnitude larger fx fp fd fl f s g =
     let e : record { sum = x; difference = kept difference; pll = next } ≡ step_of q15 t st x p = rw (to_z-of_z fd) (rw f at s) in
     -- the difference is above -32768
     let above : lt_z (kept difference) (negsuc 32766) ≡ false =
-        rw (ap (λ (z : Stepped ℤ). z.difference) e) (difference_above t st x p (rw ex fx)) in
+    rw (ap (λ (z : Stepped ℤ). z.difference) e) (difference_above t st x p (rw ex fx)) in
     record {
       ex = ex;
       ep = ep;
@@ -76,8 +76,8 @@ offset_bounds-stereos-k c =
     let l = c.loop-i in
     let m : Summary ℤ = record { counts = a.s.counts; magnitude = kept a.s.magnitude } in
     let w = sampled a.table.now a.mpx.now a.pilot.now (pll_of_q15 l.st) (pll_of_q15 c.step_checked-o.result.next) l.i c.step_checked-o.result.difference (to_z w16 l.magnitude-bits) c.larger-magnitude.result
-        (record { sfits = c.x-1.given }) (record { sfits = c.p-1.given }) (record { sfits = c.struct_told-in-loop-i-1.given.1.0.1 }) (record { sfits = c.larger-magnitude.type_inv })
-        l.invariant.fit_state c.step_checked-o.ensures c.larger-magnitude.ensures in
+    (record { sfits = c.x-1.given }) (record { sfits = c.p-1.given }) (record { sfits = c.struct_told-in-loop-i-1.given.1.0.1 }) (record { sfits = c.larger-magnitude.type_inv })
+    l.invariant.fit_state c.step_checked-o.ensures c.larger-magnitude.ensures in
     let room = has_place q15 unsigned_q15 unsigned_q15_lem a.table.now a.mpx.now a.pilot.now (pll_of_q15 a.d) m l.invariant c.loop-i-test.true w.ex w.ep w.e w.fit c.counted-counts.ensures.fact_2 w.larger_is (sym c.is_full.ensures ∙ c.if-is_full.true) in
     let of-stereos : length a.stereos.now * 4 < 2 ^ 63 = c.well_formed.1.1.1.1.1.1.1.0.1 in
     omega (arith, room, c.requires.fact_2.0, of-stereos)
@@ -88,8 +88,8 @@ bounds-stereos-k c =
     let l = c.loop-i in
     let m : Summary ℤ = record { counts = a.s.counts; magnitude = kept a.s.magnitude } in
     let w = sampled a.table.now a.mpx.now a.pilot.now (pll_of_q15 l.st) (pll_of_q15 c.step_checked-o.result.next) l.i c.step_checked-o.result.difference (to_z w16 l.magnitude-bits) c.larger-magnitude.result
-        (record { sfits = c.x-1.given }) (record { sfits = c.p-1.given }) (record { sfits = c.struct_told-in-loop-i-1.given.1.0.1 }) (record { sfits = c.larger-magnitude.type_inv })
-        l.invariant.fit_state c.step_checked-o.ensures c.larger-magnitude.ensures in
+    (record { sfits = c.x-1.given }) (record { sfits = c.p-1.given }) (record { sfits = c.struct_told-in-loop-i-1.given.1.0.1 }) (record { sfits = c.larger-magnitude.type_inv })
+    l.invariant.fit_state c.step_checked-o.ensures c.larger-magnitude.ensures in
     let room = has_place q15 unsigned_q15 unsigned_q15_lem a.table.now a.mpx.now a.pilot.now (pll_of_q15 a.d) m l.invariant c.loop-i-test.true w.ex w.ep w.e w.fit c.counted-counts.ensures.fact_2 w.larger_is (sym c.is_full.ensures ∙ c.if-is_full.true) in
     omega (arith, room, l.invariant.placed.stereo.size)
 
@@ -99,8 +99,8 @@ offset_bounds-monos-k c =
     let l = c.loop-i in
     let m : Summary ℤ = record { counts = a.s.counts; magnitude = kept a.s.magnitude } in
     let w = sampled a.table.now a.mpx.now a.pilot.now (pll_of_q15 l.st) (pll_of_q15 c.step_checked-o.result.next) l.i c.step_checked-o.result.difference (to_z w16 l.magnitude-bits) c.larger-magnitude.result
-        (record { sfits = c.x-1.given }) (record { sfits = c.p-1.given }) (record { sfits = c.struct_told-in-loop-i-1.given.1.0.1 }) (record { sfits = c.larger-magnitude.type_inv })
-        l.invariant.fit_state c.step_checked-o.ensures c.larger-magnitude.ensures in
+    (record { sfits = c.x-1.given }) (record { sfits = c.p-1.given }) (record { sfits = c.struct_told-in-loop-i-1.given.1.0.1 }) (record { sfits = c.larger-magnitude.type_inv })
+    l.invariant.fit_state c.step_checked-o.ensures c.larger-magnitude.ensures in
     let room = has_place q15 unsigned_q15 unsigned_q15_lem a.table.now a.mpx.now a.pilot.now (pll_of_q15 a.d) m l.invariant c.loop-i-test.true w.ex w.ep w.e w.fit c.counted-counts.ensures.fact_2 w.larger_is (sym c.is_full.ensures ∙ c.if-is_full.true) in
     let of-stereos : length a.stereos.now * 4 < 2 ^ 63 = c.well_formed.1.1.1.1.1.1.1.0.1 in
     omega (arith, room, c.requires.fact_2.0, of-stereos)
@@ -111,8 +111,8 @@ bounds-monos-k c =
     let l = c.loop-i in
     let m : Summary ℤ = record { counts = a.s.counts; magnitude = kept a.s.magnitude } in
     let w = sampled a.table.now a.mpx.now a.pilot.now (pll_of_q15 l.st) (pll_of_q15 c.step_checked-o.result.next) l.i c.step_checked-o.result.difference (to_z w16 l.magnitude-bits) c.larger-magnitude.result
-        (record { sfits = c.x-1.given }) (record { sfits = c.p-1.given }) (record { sfits = c.struct_told-in-loop-i-1.given.1.0.1 }) (record { sfits = c.larger-magnitude.type_inv })
-        l.invariant.fit_state c.step_checked-o.ensures c.larger-magnitude.ensures in
+    (record { sfits = c.x-1.given }) (record { sfits = c.p-1.given }) (record { sfits = c.struct_told-in-loop-i-1.given.1.0.1 }) (record { sfits = c.larger-magnitude.type_inv })
+    l.invariant.fit_state c.step_checked-o.ensures c.larger-magnitude.ensures in
     let room = has_place q15 unsigned_q15 unsigned_q15_lem a.table.now a.mpx.now a.pilot.now (pll_of_q15 a.d) m l.invariant c.loop-i-test.true w.ex w.ep w.e w.fit c.counted-counts.ensures.fact_2 w.larger_is (sym c.is_full.ensures ∙ c.if-is_full.true) in
     omega (arith, room, l.invariant.placed.mono.size)
 
@@ -122,8 +122,8 @@ offset_bounds-changes-k c =
     let l = c.loop-i in
     let m : Summary ℤ = record { counts = a.s.counts; magnitude = kept a.s.magnitude } in
     let w = sampled a.table.now a.mpx.now a.pilot.now (pll_of_q15 l.st) (pll_of_q15 c.step_checked-o.result.next) l.i c.step_checked-o.result.difference (to_z w16 l.magnitude-bits) c.larger-magnitude.result
-        (record { sfits = c.x-1.given }) (record { sfits = c.p-1.given }) (record { sfits = c.struct_told-in-loop-i-1.given.1.0.1 }) (record { sfits = c.larger-magnitude.type_inv })
-        l.invariant.fit_state c.step_checked-o.ensures c.larger-magnitude.ensures in
+    (record { sfits = c.x-1.given }) (record { sfits = c.p-1.given }) (record { sfits = c.struct_told-in-loop-i-1.given.1.0.1 }) (record { sfits = c.larger-magnitude.type_inv })
+    l.invariant.fit_state c.step_checked-o.ensures c.larger-magnitude.ensures in
     let room = has_place q15 unsigned_q15 unsigned_q15_lem a.table.now a.mpx.now a.pilot.now (pll_of_q15 a.d) m l.invariant c.loop-i-test.true w.ex w.ep w.e w.fit c.counted-counts.ensures.fact_2 w.larger_is (sym c.is_full.ensures ∙ c.if-is_full.true) in
     let of-stereos : length a.stereos.now * 4 < 2 ^ 63 = c.well_formed.1.1.1.1.1.1.1.0.1 in
     omega (arith, room, c.requires.fact_2.0, of-stereos)
@@ -134,8 +134,8 @@ bounds-changes-k c =
     let l = c.loop-i in
     let m : Summary ℤ = record { counts = a.s.counts; magnitude = kept a.s.magnitude } in
     let w = sampled a.table.now a.mpx.now a.pilot.now (pll_of_q15 l.st) (pll_of_q15 c.step_checked-o.result.next) l.i c.step_checked-o.result.difference (to_z w16 l.magnitude-bits) c.larger-magnitude.result
-        (record { sfits = c.x-1.given }) (record { sfits = c.p-1.given }) (record { sfits = c.struct_told-in-loop-i-1.given.1.0.1 }) (record { sfits = c.larger-magnitude.type_inv })
-        l.invariant.fit_state c.step_checked-o.ensures c.larger-magnitude.ensures in
+    (record { sfits = c.x-1.given }) (record { sfits = c.p-1.given }) (record { sfits = c.struct_told-in-loop-i-1.given.1.0.1 }) (record { sfits = c.larger-magnitude.type_inv })
+    l.invariant.fit_state c.step_checked-o.ensures c.larger-magnitude.ensures in
     let room = has_place q15 unsigned_q15 unsigned_q15_lem a.table.now a.mpx.now a.pilot.now (pll_of_q15 a.d) m l.invariant c.loop-i-test.true w.ex w.ep w.e w.fit c.counted-counts.ensures.fact_2 w.larger_is (sym c.is_full.ensures ∙ c.if-is_full.true) in
     omega (arith, room, l.invariant.placed.changes.size)
 
@@ -145,8 +145,8 @@ offset_bounds-magnitudes-k c =
     let l = c.loop-i in
     let m : Summary ℤ = record { counts = a.s.counts; magnitude = kept a.s.magnitude } in
     let w = sampled a.table.now a.mpx.now a.pilot.now (pll_of_q15 l.st) (pll_of_q15 c.step_checked-o.result.next) l.i c.step_checked-o.result.difference (to_z w16 l.magnitude-bits) c.larger-magnitude.result
-        (record { sfits = c.x-1.given }) (record { sfits = c.p-1.given }) (record { sfits = c.struct_told-in-loop-i-1.given.1.0.1 }) (record { sfits = c.larger-magnitude.type_inv })
-        l.invariant.fit_state c.step_checked-o.ensures c.larger-magnitude.ensures in
+    (record { sfits = c.x-1.given }) (record { sfits = c.p-1.given }) (record { sfits = c.struct_told-in-loop-i-1.given.1.0.1 }) (record { sfits = c.larger-magnitude.type_inv })
+    l.invariant.fit_state c.step_checked-o.ensures c.larger-magnitude.ensures in
     let room = has_place q15 unsigned_q15 unsigned_q15_lem a.table.now a.mpx.now a.pilot.now (pll_of_q15 a.d) m l.invariant c.loop-i-test.true w.ex w.ep w.e w.fit c.counted-counts.ensures.fact_2 w.larger_is (sym c.is_full.ensures ∙ c.if-is_full.true) in
     let of-stereos : length a.stereos.now * 4 < 2 ^ 63 = c.well_formed.1.1.1.1.1.1.1.0.1 in
     omega (arith, room, c.requires.fact_2.0, of-stereos)
@@ -157,8 +157,8 @@ bounds-magnitudes-k c =
     let l = c.loop-i in
     let m : Summary ℤ = record { counts = a.s.counts; magnitude = kept a.s.magnitude } in
     let w = sampled a.table.now a.mpx.now a.pilot.now (pll_of_q15 l.st) (pll_of_q15 c.step_checked-o.result.next) l.i c.step_checked-o.result.difference (to_z w16 l.magnitude-bits) c.larger-magnitude.result
-        (record { sfits = c.x-1.given }) (record { sfits = c.p-1.given }) (record { sfits = c.struct_told-in-loop-i-1.given.1.0.1 }) (record { sfits = c.larger-magnitude.type_inv })
-        l.invariant.fit_state c.step_checked-o.ensures c.larger-magnitude.ensures in
+    (record { sfits = c.x-1.given }) (record { sfits = c.p-1.given }) (record { sfits = c.struct_told-in-loop-i-1.given.1.0.1 }) (record { sfits = c.larger-magnitude.type_inv })
+    l.invariant.fit_state c.step_checked-o.ensures c.larger-magnitude.ensures in
     let room = has_place q15 unsigned_q15 unsigned_q15_lem a.table.now a.mpx.now a.pilot.now (pll_of_q15 a.d) m l.invariant c.loop-i-test.true w.ex w.ep w.e w.fit c.counted-counts.ensures.fact_2 w.larger_is (sym c.is_full.ensures ∙ c.if-is_full.true) in
     omega (arith, room, l.invariant.placed.magnitude.size)
 
@@ -168,8 +168,8 @@ overflow_add-k c =
     let l = c.loop-i in
     let m : Summary ℤ = record { counts = a.s.counts; magnitude = kept a.s.magnitude } in
     let w = sampled a.table.now a.mpx.now a.pilot.now (pll_of_q15 l.st) (pll_of_q15 c.step_checked-o.result.next) l.i c.step_checked-o.result.difference (to_z w16 l.magnitude-bits) c.larger-magnitude.result
-        (record { sfits = c.x-1.given }) (record { sfits = c.p-1.given }) (record { sfits = c.struct_told-in-loop-i-1.given.1.0.1 }) (record { sfits = c.larger-magnitude.type_inv })
-        l.invariant.fit_state c.step_checked-o.ensures c.larger-magnitude.ensures in
+    (record { sfits = c.x-1.given }) (record { sfits = c.p-1.given }) (record { sfits = c.struct_told-in-loop-i-1.given.1.0.1 }) (record { sfits = c.larger-magnitude.type_inv })
+    l.invariant.fit_state c.step_checked-o.ensures c.larger-magnitude.ensures in
     let room = has_place q15 unsigned_q15 unsigned_q15_lem a.table.now a.mpx.now a.pilot.now (pll_of_q15 a.d) m l.invariant c.loop-i-test.true w.ex w.ep w.e w.fit c.counted-counts.ensures.fact_2 w.larger_is (sym c.is_full.ensures ∙ c.if-is_full.true) in
     let of-stereos : length a.stereos.now * 4 < 2 ^ 63 = c.well_formed.1.1.1.1.1.1.1.0.1 in
     omega (arith, room, c.requires.fact_2.0, of-stereos)
@@ -180,13 +180,13 @@ loop-i-preserved c =
     let l = c.loop-i in
     let m : Summary ℤ = record { counts = a.s.counts; magnitude = kept a.s.magnitude } in
     let w = sampled a.table.now a.mpx.now a.pilot.now (pll_of_q15 l.st) (pll_of_q15 c.step_checked-o.result.next) l.i c.step_checked-o.result.difference (to_z w16 l.magnitude-bits) c.larger-magnitude.result
-        (record { sfits = c.x-1.given }) (record { sfits = c.p-1.given }) (record { sfits = c.struct_told-in-loop-i-1.given.1.0.1 }) (record { sfits = c.larger-magnitude.type_inv })
-        l.invariant.fit_state c.step_checked-o.ensures c.larger-magnitude.ensures in
+    (record { sfits = c.x-1.given }) (record { sfits = c.p-1.given }) (record { sfits = c.struct_told-in-loop-i-1.given.1.0.1 }) (record { sfits = c.larger-magnitude.type_inv })
+    l.invariant.fit_state c.step_checked-o.ensures c.larger-magnitude.ensures in
     elim c.if-is_full.branch [
-      then-is_full v ↦
+      | then-is_full v ↦
           rw (v.stereos-is, v.monos-is, v.changes-is, v.magnitudes-is, v.counts-is, v.magnitude-is, v.k-is, v.empty-counts.ensures)
           (noting_full q15 unsigned_q15 unsigned_q15_lem a.table.now a.mpx.now a.pilot.now (pll_of_q15 a.d) m l.invariant c.loop-i-test.true w.ex w.ep w.e w.fit c.counted-counts.ensures.fact_2 w.larger_is (sym c.is_full.ensures ∙ v.if-is_full.true))
-    | else-is_full v ↦
+      | else-is_full v ↦
           rw (v.stereos-is, v.monos-is, v.changes-is, v.magnitudes-is, v.counts-is, v.magnitude-is, v.k-is)
           (noting_on q15 unsigned_q15 unsigned_q15_lem a.table.now a.mpx.now a.pilot.now (pll_of_q15 a.d) m l.invariant c.loop-i-test.true w.ex w.ep w.e w.fit c.counted-counts.ensures.fact_2 w.larger_is (sym c.is_full.ensures ∙ v.if-is_full.false))
     ]

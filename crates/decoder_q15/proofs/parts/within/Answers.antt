@@ -30,8 +30,8 @@ returns-then-y-imax c =
     let f = c.ranges in
     second c.args.imax c.args.x
     (elim c.if-x-imax.branch [
-      then-x-imax w ↦ w.y-is ∙ first (to_z-of_z f.imax) (to_z-of_z f.x) w.if-x-imax.true
-    | else-x-imax w ↦ w.y-is ∙ first (to_z-of_z f.imax) (to_z-of_z f.x) w.if-x-imax.false
+      | then-x-imax w ↦ w.y-is ∙ first (to_z-of_z f.imax) (to_z-of_z f.x) w.if-x-imax.true
+      | else-x-imax w ↦ w.y-is ∙ first (to_z-of_z f.imax) (to_z-of_z f.x) w.if-x-imax.false
     ])
     (minus_held (to_z-of_z f.imax) f.imax c.requires) c.if-y-imax.true
 
@@ -40,7 +40,7 @@ returns-else-y-imax c =
     let f = c.ranges in
     second c.args.imax c.args.x
     (elim c.if-x-imax.branch [
-      then-x-imax w ↦ w.y-is ∙ first (to_z-of_z f.imax) (to_z-of_z f.x) w.if-x-imax.true
-    | else-x-imax w ↦ w.y-is ∙ first (to_z-of_z f.imax) (to_z-of_z f.x) w.if-x-imax.false
+      | then-x-imax w ↦ w.y-is ∙ first (to_z-of_z f.imax) (to_z-of_z f.x) w.if-x-imax.true
+      | else-x-imax w ↦ w.y-is ∙ first (to_z-of_z f.imax) (to_z-of_z f.x) w.if-x-imax.false
     ])
     (minus_held (to_z-of_z f.imax) f.imax c.requires) c.if-y-imax.false

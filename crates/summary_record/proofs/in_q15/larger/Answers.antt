@@ -31,8 +31,8 @@ returns-then-a-y c =
     let above : lt_z c.args.y (negsuc 32766) ≡ false = rw (to_z-of_z f.y) at c.if-y-ltminus32767.false in
     negative_larger c.args.m c.args.y
     (elim c.if-m-y.branch [
-      then-m-y w ↦ w.a-is ∙ greater (to_z-of_z f.m) (to_z-of_z f.y) w.if-m-y.true
-    | else-m-y w ↦ w.a-is ∙ greater (to_z-of_z f.m) (to_z-of_z f.y) w.if-m-y.false
+      | then-m-y w ↦ w.a-is ∙ greater (to_z-of_z f.m) (to_z-of_z f.y) w.if-m-y.true
+      | else-m-y w ↦ w.a-is ∙ greater (to_z-of_z f.m) (to_z-of_z f.y) w.if-m-y.false
     ])
     (minus_is (to_z-of_z f.y) f.y above) c.if-a-y.true ∙ rw above
 
@@ -42,7 +42,7 @@ returns-else-a-y c =
     let above : lt_z c.args.y (negsuc 32766) ≡ false = rw (to_z-of_z f.y) at c.if-y-ltminus32767.false in
     other_larger c.args.m c.args.y
     (elim c.if-m-y.branch [
-      then-m-y w ↦ w.a-is ∙ greater (to_z-of_z f.m) (to_z-of_z f.y) w.if-m-y.true
-    | else-m-y w ↦ w.a-is ∙ greater (to_z-of_z f.m) (to_z-of_z f.y) w.if-m-y.false
+      | then-m-y w ↦ w.a-is ∙ greater (to_z-of_z f.m) (to_z-of_z f.y) w.if-m-y.true
+      | else-m-y w ↦ w.a-is ∙ greater (to_z-of_z f.m) (to_z-of_z f.y) w.if-m-y.false
     ])
     (minus_is (to_z-of_z f.y) f.y above) c.if-a-y.false ∙ rw above
