@@ -8,7 +8,11 @@ use native.Mathlib.Omega.{arith}
 use borrow.Author.Tests.{eqb-true, ltb-true}
 use lib.Dec.{eqb, ltb}
 use Rattle.answers.proofs.Tests.{and_out}
-use Rattle.answers.specs.Answer.{Said, accepted, turned, lengths, accepts, rule, length_rule, or_else, first_cause, Built, made, refused, built_by, map_built, Changed, changed, unchanged, changed_by}
+use Rattle.answers.specs.declared.answer.Refusal.{Refusal}
+use Rattle.answers.specs.declared.answer.Refusal.TheVariants.{Table, Input, Output}
+use Rattle.std.proofs.Common.{Result, Ok, Err}
+use Rattle.std.specs.Result.{is_err}
+use Rattle.answers.specs.Answer.{says_refusal, says, says_changed, Said, accepted, turned, lengths, accepts, rule, length_rule, or_else, first_cause, Built, made, refused, built_by, map_built, Changed, changed, unchanged, changed_by}
 
 -- an earlier cause stays, and where there is none the next rule decides
 pub stays : (s t : Said) → accepts s ≡ false → s ≡ or_else s t
@@ -20,6 +24,26 @@ pub none_yet : (s : Said) → accepts s ≡ true → s ≡ accepted
 none_yet accepted h = refl
 none_yet (turned n) h = absurd (false≢true h)
 none_yet (lengths n a b) h = absurd (false≢true h)
+
+-- a refusal is no accepted answer, and stays
+pub refuses : (refusal : Refusal) → accepts (says_refusal refusal) ≡ false
+refuses (Table found) = refl
+refuses (Input first found) = refl
+refuses (Output first found) = refl
+refuses refusal = refl
+
+-- .. by the test of an answer, b
+module _ {b : Bool} where
+  pub refused_by : (r : Result (Unit {0}) Refusal) → b ≡ is_err r → b ≡ true → accepts (says r) ≡ false
+  refused_by (Ok done) e h = absurd (false≢true (sym e ∙ h))
+  refused_by (Err refusal) e h = refuses refusal
+
+  pub accepted_by : (r : Result (Unit {0}) Refusal) → b ≡ is_err r → b ≡ false → accepts (says r) ≡ true
+  accepted_by (Ok done) e h = refl
+  accepted_by (Err refusal) e h = absurd (true≢false (sym e ∙ h))
+
+pub refusal_stays : (refusal : Refusal) (s t : Said) → says_refusal refusal ≡ s → says_refusal refusal ≡ or_else s t
+refusal_stays refusal s t e = e ∙ stays s t (ap accepts (sym e) ∙ refuses refusal)
 
 -- rules one after the other, as the code tries them
 abbrev pub chained : Said → List Said → Said
@@ -86,14 +110,18 @@ change_built f old (turned n) a = refl
 change_built f old (lengths n x y) a = refl
 
 -- a set call on a part of a record, from the set call on the part
-abbrev pub map_changed : {A B : Type 0} → (A → B) → B → Changed A → Changed B
-map_changed f old (changed a) = changed (f a)
-map_changed f old (unchanged n a) = unchanged n old
+abbrev pub map_changed : {A B : Type 0} → (A → B) → Changed A → Changed B
+map_changed f (changed a) = changed (f a)
+map_changed f (unchanged n a) = unchanged n (f a)
 
-pub map_changed_lem : {A B : Type 0} (f : A → B) (b : B) (s : Said) (new old : A) → map_changed f b (changed_by s new old) ≡ changed_by s (f new) b
-map_changed_lem f b accepted new old = refl
-map_changed_lem f b (turned n) new old = refl
-map_changed_lem f b (lengths n x y) new old = refl
+pub map_changed_lem : {A B : Type 0} (f : A → B) (s : Said) (new old : A) → map_changed f (changed_by s new old) ≡ changed_by s (f new) (f old)
+map_changed_lem f accepted new old = refl
+map_changed_lem f (turned n) new old = refl
+map_changed_lem f (lengths n x y) new old = refl
+
+pub map_says_changed : {A B : Type 0} (f : A → B) (r : Result (Unit {0}) Refusal) (now : A) → map_changed f (says_changed r now) ≡ says_changed r (f now)
+map_says_changed f (Ok done) now = refl
+map_says_changed f (Err refusal) now = refl
 
 -- what was made: no cause is in force, and it is what the definition has
 pub made_same : {A : Type 0} {a b : A} → made a ≡ made b → a ≡ b

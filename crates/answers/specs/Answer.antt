@@ -1,7 +1,7 @@
 -- What a call answers, in document 01's numbers. Source: document 01, "Calls turned back". Definitions only.
-use Rattle.std.specs.Prelude.{ℕ, ◌+◌, Bool, true, false, cond, List, [], ◌∷◌, eqb}
-use Rattle.answers.specs.declared.answer.Answer.{Answer}
-use Rattle.answers.specs.declared.answer.Answer.TheVariants.{Accepted, Unfit, Summary, Number, Allowance, Table, Input, Output}
+use Rattle.std.specs.Prelude.{ℕ, ◌+◌, Bool, true, false, cond, List, [], ◌∷◌, eqb, Result, Ok, Err}
+use Rattle.answers.specs.declared.answer.Refusal.{Refusal}
+use Rattle.answers.specs.declared.answer.Refusal.TheVariants as cause
 use Rattle.answers.specs.declared.answer.Code.{Code}
 
 -- accepted, or the cause's number, for 9 to 11 with the length wanted and the one found
@@ -78,15 +78,51 @@ abbrev pub kept : {A : Type 0} → Said → A → A → A
 kept s new old = cond (accepts s) new old
 
 -- ---- the program's answers in these terms
-abbrev pub says : Answer → Said
-says Accepted = accepted
-says Unfit = turned 0
-says Summary = turned 20
-says Number = turned 21
-says Allowance = turned 22
-says (Table found) = lengths 9 entries found
-says (Input first found) = lengths 10 first found
-says (Output first found) = lengths 11 first found
+-- a refusal's number in document 01
+abbrev pub number_of : Refusal → ℕ
+number_of cause.Unfit = 0
+number_of cause.Rate = 1
+number_of cause.PilotFrequency = 2
+number_of cause.NaturalFrequency = 3
+number_of cause.PilotLevel = 4
+number_of cause.LockCoefficient = 5
+number_of cause.Narrow = 6
+number_of cause.Wide = 7
+number_of cause.ZeroGain = 8
+number_of (cause.Table found) = 9
+number_of (cause.Input first found) = 10
+number_of (cause.Output first found) = 11
+number_of cause.EncoderPilot = 12
+number_of cause.MainGain = 13
+number_of cause.PilotAmplitude = 14
+number_of cause.EncoderRate = 15
+number_of cause.RdsLevel = 16
+number_of cause.Cycles = 17
+number_of cause.OutsideQ14 = 18
+number_of cause.WordThree = 19
+number_of cause.Summary = 20
+number_of cause.Number = 21
+number_of cause.Allowance = 22
+
+abbrev pub says_refusal : Refusal → Said
+says_refusal (cause.Table found) = lengths 9 entries found
+says_refusal (cause.Input first found) = lengths 10 first found
+says_refusal (cause.Output first found) = lengths 11 first found
+says_refusal refusal = turned (number_of refusal)
+
+abbrev pub says : Result Unit Refusal → Said
+says (Ok done) = accepted
+says (Err refusal) = says_refusal refusal
+
+-- a construction's answer
+abbrev pub says_made : {A : Type 0} → Result A Refusal → Built A
+says_made (Ok a) = made a
+says_made (Err refusal) = refused (number_of refusal)
+
+-- a set call's answer, and the record after it
+abbrev pub says_changed : {A : Type 0} → Result Unit Refusal → A → Changed A
+says_changed (Ok done) now = changed now
+says_changed (Err refusal) now = unchanged (number_of refusal) now
 
 -- an answer in three numbers: 0, or 100 and the cause's number; then the two lengths, 0 where there are none
 abbrev pub code_of : Said → Code

@@ -1,9 +1,10 @@
-// What a block answers, and the rule of the lengths.
+// What a call answers, and the rule of the lengths.
 ghost use Rattle.std.specs.Prelude.{◌≡◌, cond, eqb};
 ghost use Rattle.answers.specs.Answer.{
   accepted,
   says,
-  accepts,
+  says_refusal,
+  number_of,
   or_else,
   table_rule,
   input_rule,
@@ -14,24 +15,45 @@ ghost use Rattle.answers.specs.Answer.{
 // The entries of a table: one turn in 4096 steps, and the first entry again.
 pub const ENTRIES: usize = 4097;
 
-// Carried out, or turned back with the lengths at fault.
+// Why a call is turned back: document 01's causes in the order of their numbers, and document 02's.
 #[derive(Clone, Copy)]
-pub enum Answer {
-    Accepted,
+pub enum Refusal {
     // a Q15 decoder's record is unfit
     Unfit,
-    // a summary's record is none that a call leaves
-    Summary,
-    // a rack's number of decoders is not 2 to 8
-    Number,
-    // a rack's allowance is smaller than its number of decoders
-    Allowance,
+    Rate,
+    PilotFrequency,
+    NaturalFrequency,
+    PilotLevel,
+    LockCoefficient,
+    // a gain becomes 0 or not finite as an f32
+    Narrow,
+    // in Q15 a value or a guard passes an i64
+    Wide,
+    // in Q15 ki or beta becomes 0
+    ZeroGain,
     // the table's length
     Table(usize),
     // the first input's length, and that of the input at fault
     Input(usize, usize),
     // the first input's length, and that of the output at fault
     Output(usize, usize),
+    EncoderPilot,
+    MainGain,
+    PilotAmplitude,
+    EncoderRate,
+    RdsLevel,
+    // an oscillator's frequency over its rate is not finite
+    Cycles,
+    // a value lies outside Q14
+    OutsideQ14,
+    // word three differs from word one where C' is taken
+    WordThree,
+    // a summary's record is none that a call leaves
+    Summary,
+    // a rack's number of decoders is not 2 to 8
+    Number,
+    // a rack's allowance is smaller than its number of decoders
+    Allowance,
 }
 
 // An answer in three numbers, for C and for lists of answers: 0, or 100 and the cause's number; then
@@ -44,97 +66,113 @@ pub struct Code {
     pub got: usize,
 }
 
-pub fn is_accepted(a: Answer) -> bool
-    ensures { result ≡ accepts (says a) }
-{
-    match a {
-        Answer::Accepted => true,
-        Answer::Unfit => false,
-        Answer::Summary => false,
-        Answer::Number => false,
-        Answer::Allowance => false,
-        Answer::Table(_) => false,
-        Answer::Input(_, _) => false,
-        Answer::Output(_, _) => false,
+impl Refusal {
+    // The cause's number.
+    pub fn number(self) -> u32
+        ensures { result ≡ number_of self }
+    {
+        match self {
+            Refusal::Unfit => 0,
+            Refusal::Rate => 1,
+            Refusal::PilotFrequency => 2,
+            Refusal::NaturalFrequency => 3,
+            Refusal::PilotLevel => 4,
+            Refusal::LockCoefficient => 5,
+            Refusal::Narrow => 6,
+            Refusal::Wide => 7,
+            Refusal::ZeroGain => 8,
+            Refusal::Table(_) => 9,
+            Refusal::Input(_, _) => 10,
+            Refusal::Output(_, _) => 11,
+            Refusal::EncoderPilot => 12,
+            Refusal::MainGain => 13,
+            Refusal::PilotAmplitude => 14,
+            Refusal::EncoderRate => 15,
+            Refusal::RdsLevel => 16,
+            Refusal::Cycles => 17,
+            Refusal::OutsideQ14 => 18,
+            Refusal::WordThree => 19,
+            Refusal::Summary => 20,
+            Refusal::Number => 21,
+            Refusal::Allowance => 22,
+        }
+    }
+
+    // The refusal in three numbers.
+    pub fn code(self) -> Code
+        ensures { result ≡ code_of (says_refusal self) }
+    {
+        let code = 100 + self.number();
+        match self {
+            Refusal::Table(n) => Code {
+                code,
+                expected: ENTRIES,
+                got: n,
+            },
+            Refusal::Input(first, n) => Code {
+                code,
+                expected: first,
+                got: n,
+            },
+            Refusal::Output(first, n) => Code {
+                code,
+                expected: first,
+                got: n,
+            },
+            _ => Code {
+                code,
+                expected: 0,
+                got: 0,
+            },
+        }
     }
 }
 
-// Then the rule that n is to be `wanted`, or else the answer is `fault`; an earlier cause stays.
-fn then_length(a: Answer, wanted: usize, n: usize, fault: Answer) -> Answer
-    ensures { says result ≡ or_else (says a) (cond (eqb n wanted) accepted (says fault)) }
+// The refusal, where a length is not the one wanted.
+fn length_rule(wanted: usize, n: usize, refusal: Refusal) -> Result<(), Refusal>
+    ensures { says result ≡ cond (eqb n wanted) accepted (says_refusal refusal) }
 {
-    if is_accepted(a) {
-        if n != wanted {
-            return fault;
-        }
-    }
-    a
+    if n == wanted { Ok(()) } else { Err(refusal) }
 }
 
 // The table's length.
-pub fn table_rule(n: usize) -> Answer
+pub fn table_rule(n: usize) -> Result<(), Refusal>
     ensures { says result ≡ table_rule n }
 {
-    then_length(Answer::Accepted, ENTRIES, n, Answer::Table(n))
+    length_rule(ENTRIES, n, Refusal::Table(n))
 }
 
-// Then a further input's length, which is to be the first one's.
-pub fn then_input(a: Answer, first: usize, n: usize) -> Answer
-    ensures { says result ≡ or_else (says a) (input_rule first n) }
+// A further input's length, which is to be the first one's.
+pub fn input_rule(first: usize, n: usize) -> Result<(), Refusal>
+    ensures { says result ≡ input_rule first n }
 {
-    then_length(a, first, n, Answer::Input(first, n))
+    length_rule(first, n, Refusal::Input(first, n))
 }
 
-// Then an output's length.
-pub fn then_output(a: Answer, first: usize, n: usize) -> Answer
-    ensures { says result ≡ or_else (says a) (output_rule first n) }
+// An output's length, which is to be the first input's.
+pub fn output_rule(first: usize, n: usize) -> Result<(), Refusal>
+    ensures { says result ≡ output_rule first n }
 {
-    then_length(a, first, n, Answer::Output(first, n))
+    length_rule(first, n, Refusal::Output(first, n))
 }
 
-pub fn code_of(a: Answer) -> Code
-    ensures { result ≡ code_of (says a) }
+// The table's length, then that of the second input.
+pub fn inputs_rule(table: usize, first: usize, second: usize) -> Result<(), Refusal>
+    ensures { says result ≡ or_else (table_rule table) (input_rule first second) }
 {
-    match a {
-        Answer::Accepted => Code {
+    table_rule(table)?;
+    input_rule(first, second)
+}
+
+pub fn code_of(answer: Result<(), Refusal>) -> Code
+    ensures { result ≡ code_of (says answer) }
+{
+    match answer {
+        Ok(()) => Code {
             code: 0,
             expected: 0,
             got: 0,
         },
-        Answer::Unfit => Code {
-            code: 100,
-            expected: 0,
-            got: 0,
-        },
-        Answer::Summary => Code {
-            code: 120,
-            expected: 0,
-            got: 0,
-        },
-        Answer::Number => Code {
-            code: 121,
-            expected: 0,
-            got: 0,
-        },
-        Answer::Allowance => Code {
-            code: 122,
-            expected: 0,
-            got: 0,
-        },
-        Answer::Table(n) => Code {
-            code: 109,
-            expected: ENTRIES,
-            got: n,
-        },
-        Answer::Input(first, n) => Code {
-            code: 110,
-            expected: first,
-            got: n,
-        },
-        Answer::Output(first, n) => Code {
-            code: 111,
-            expected: first,
-            got: n,
-        },
+        Err(refusal) => refusal.code(),
     }
 }

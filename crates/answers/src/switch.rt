@@ -12,5 +12,5 @@ pub fn is_on(x: u32) -> bool
 pub fn switch_of(b: bool) -> u32
     ensures { result ≡ switch_of b }
 {
-    if b { 1 } else { 0 }
+    u32::from(b)
 }

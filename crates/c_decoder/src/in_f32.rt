@@ -15,7 +15,7 @@ use crate::shared::Readout;
 use answers::answer::{Code, code_of};
 use answers::switch::{is_on, switch_of};
 use counted::{answer_of, wide_of};
-use decoder_record::pll_f32::{NewF32, StereoPllF32};
+use decoder_record::pll_f32::StereoPllF32;
 
 // The record in C.
 #[repr(C)]
@@ -121,12 +121,12 @@ pub extern "C" fn pescrondilu_f32_new(
         ≡ coded_decoder nought (new_f32_of pilot natural level beta rate) }
 {
     match StereoPllF32::new(pilot, natural, level, beta, rate) {
-        NewF32::Made(d) => CodedF32 {
+        Ok(d) => CodedF32 {
             code: 0,
             decoder: given(d),
         },
-        NewF32::Refused(n) => CodedF32 {
-            code: 100 + n,
+        Err(refusal) => CodedF32 {
+            code: 100 + refusal.number(),
             decoder: DecoderF32 {
                 kp: 0.0,
                 ki: 0.0,
@@ -176,7 +176,7 @@ pub extern "C" fn pescrondilu_f32_block(
     sum: &mut [f32],
     difference: &mut [f32],
 ) -> CountedF32
-    ensures fact_1 { record {
+    ensures leaves { record {
       answer = result.answer;
       sum = sum.new;
       difference = difference.new;
@@ -184,7 +184,7 @@ pub extern "C" fn pescrondilu_f32_block(
     }
         ≡ coded_block (block_of f32 (taken_of (decoder_of_f32 d))
         table.now mpx.now pilot.now sum.old difference.old) }
-    ensures fact_2 { result.wide ≡ number_in (count_f32 (taken_of (decoder_of_f32 d))
+    ensures wide { result.wide ≡ number_in (count_f32 (taken_of (decoder_of_f32 d))
         table.now mpx.now pilot.now sum.old difference.old) }
 {
     let reply = decoder_fast::block(taken(d), table, mpx, pilot, sum, difference);

@@ -11,7 +11,7 @@ ghost use Rattle.c_decoder_q15.specs.CodedQ15.{decoder_of_q15, read_q15};
 use answers::answer::{Code, code_of};
 use answers::switch::{is_on, switch_of};
 use c_decoder::shared::Readout;
-use decoder_record_q15::pll_q15::{NewQ15, StereoPllQ15};
+use decoder_record_q15::pll_q15::StereoPllQ15;
 
 // The record in C.
 #[repr(C)]
@@ -99,12 +99,12 @@ pub extern "C" fn pescrondilu_q15_new(
         ≡ coded_decoder (pos 0) (new_q15_of pilot natural level beta rate) }
 {
     match StereoPllQ15::new(pilot, natural, level, beta, rate) {
-        NewQ15::Made(d) => CodedQ15 {
+        Ok(d) => CodedQ15 {
             code: 0,
             decoder: given(d),
         },
-        NewQ15::Refused(n) => CodedQ15 {
-            code: 100 + n,
+        Err(refusal) => CodedQ15 {
+            code: 100 + refusal.number(),
             decoder: DecoderQ15 {
                 kp: 0,
                 ki: 0,

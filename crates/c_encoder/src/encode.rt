@@ -6,7 +6,7 @@ ghost use Rattle.answers.specs.Coded.{coded_new, coded_set};
 ghost use Rattle.c_encoder.specs.Coded.{no_encode, coded_block};
 
 use answers::answer::{Code, code_of};
-use encoder_record::encode::{NewEncode, SetEncode, StereoEncode};
+use encoder_record::encode::StereoEncode;
 use oscillator::nco::Nco;
 
 // 0, or 100 and the cause's number; and the encoder.
@@ -36,9 +36,9 @@ pub extern "C" fn pescrondilu_encode_new(
         ≡ coded_new no_encode (new_of frequency main pilot rate) }
 {
     match StereoEncode::new(frequency, main, pilot, rate) {
-        NewEncode::Made(encoder) => CodedEncode { code: 0, encoder },
-        NewEncode::Refused(n) => CodedEncode {
-            code: 100 + n,
+        Ok(encoder) => CodedEncode { code: 0, encoder },
+        Err(refusal) => CodedEncode {
+            code: 100 + refusal.number(),
             encoder: StereoEncode {
                 nco: Nco { phase: 0, inc: 0 },
                 main: 0.0,
@@ -52,13 +52,9 @@ pub extern "C" fn pescrondilu_encode_new(
 pub extern "C" fn pescrondilu_encode_set_pilot(e: StereoEncode, pilot: f32) -> CodedEncode
     ensures { record { code = result.code; value = result.encoder } ≡ coded_set (set_pilot_of e pilot) }
 {
-    match e.set_pilot(pilot) {
-        SetEncode::Done(encoder) => CodedEncode { code: 0, encoder },
-        SetEncode::Refused(n, encoder) => CodedEncode {
-            code: 100 + n,
-            encoder,
-        },
-    }
+    let mut encoder = e;
+    let code = code_of(encoder.set_pilot(pilot)).code;
+    CodedEncode { code, encoder }
 }
 
 #[unsafe(no_mangle)]

@@ -8,7 +8,7 @@ ghost use Rattle.c_encoder_rds.specs.CodedRds.{no_encode_rds};
 
 use answers::answer::{Code, code_of};
 use encoder_record::encode::StereoEncode;
-use encoder_record_rds::rds::{NewEncodeRds, SetEncodeRds, StereoEncodeRds};
+use encoder_record_rds::rds::StereoEncodeRds;
 use oscillator::nco::Nco;
 
 // 0, or 100 and the cause's number; and the encoder.
@@ -39,9 +39,9 @@ pub extern "C" fn pescrondilu_encode_rds_new(
         ≡ coded_new no_encode_rds (new_rds_of frequency main pilot rds rate) }
 {
     match StereoEncodeRds::new(frequency, main, pilot, rds, rate) {
-        NewEncodeRds::Made(encoder) => CodedEncodeRds { code: 0, encoder },
-        NewEncodeRds::Refused(n) => CodedEncodeRds {
-            code: 100 + n,
+        Ok(encoder) => CodedEncodeRds { code: 0, encoder },
+        Err(refusal) => CodedEncodeRds {
+            code: 100 + refusal.number(),
             encoder: StereoEncodeRds {
                 enc: StereoEncode {
                     nco: Nco { phase: 0, inc: 0 },
@@ -58,26 +58,18 @@ pub extern "C" fn pescrondilu_encode_rds_new(
 pub extern "C" fn pescrondilu_encode_rds_set_pilot(e: StereoEncodeRds, pilot: f32) -> CodedEncodeRds
     ensures { record { code = result.code; value = result.encoder } ≡ coded_set (set_rds_pilot_of e pilot) }
 {
-    match e.set_pilot(pilot) {
-        SetEncodeRds::Done(encoder) => CodedEncodeRds { code: 0, encoder },
-        SetEncodeRds::Refused(n, encoder) => CodedEncodeRds {
-            code: 100 + n,
-            encoder,
-        },
-    }
+    let mut encoder = e;
+    let code = code_of(encoder.set_pilot(pilot)).code;
+    CodedEncodeRds { code, encoder }
 }
 
 #[unsafe(no_mangle)]
 pub extern "C" fn pescrondilu_encode_rds_set_rds(e: StereoEncodeRds, rds: f32) -> CodedEncodeRds
     ensures { record { code = result.code; value = result.encoder } ≡ coded_set (set_rds_of e rds) }
 {
-    match e.set_rds(rds) {
-        SetEncodeRds::Done(encoder) => CodedEncodeRds { code: 0, encoder },
-        SetEncodeRds::Refused(n, encoder) => CodedEncodeRds {
-            code: 100 + n,
-            encoder,
-        },
-    }
+    let mut encoder = e;
+    let code = code_of(encoder.set_rds(rds)).code;
+    CodedEncodeRds { code, encoder }
 }
 
 #[unsafe(no_mangle)]

@@ -22,7 +22,7 @@ pub extern "C" fn pescrondilu_f32_merged_block(
     left: &mut [f32],
     right: &mut [f32],
 ) -> CountedF32
-    ensures fact_1 { record {
+    ensures leaves { record {
       answer = result.answer;
       left = left.new;
       right = right.new;
@@ -30,7 +30,7 @@ pub extern "C" fn pescrondilu_f32_merged_block(
     }
         ≡ coded_merged (merged_of f32 filled_f32 (taken_of (decoder_of_f32 d)) table.now mpx.now
         pilot.now left.old right.old) }
-    ensures fact_2 { result.wide ≡ number_in (count_f32 (taken_of (decoder_of_f32 d)) table.now mpx.now
+    ensures wide { result.wide ≡ number_in (count_f32 (taken_of (decoder_of_f32 d)) table.now mpx.now
         pilot.now left.old right.old) }
 {
     let before = taken(d);

@@ -18,7 +18,6 @@ ghost use Rattle.answers.specs.Coded.{coded_new};
 
 use lookup::lookup::Pair;
 use phase::correction::Corrected;
-use scale::scale::Q14;
 
 // 0 and the value, or 100 and the cause's number, and 0.
 #[repr(C)]
@@ -173,9 +172,9 @@ pub extern "C" fn pescrondilu_q14_from_f64(x: f64) -> CodedQ14
     ensures { record { code = result.code; value = result.value } ≡ coded_new (pos 0) (q14_from_of x) }
 {
     match scale::scale::q14_from_f64(x) {
-        Q14::Value(value) => CodedQ14 { code: 0, value },
-        Q14::Outside => CodedQ14 {
-            code: 118,
+        Ok(value) => CodedQ14 { code: 0, value },
+        Err(refusal) => CodedQ14 {
+            code: 100 + refusal.number(),
             value: 0,
         },
     }

@@ -4,7 +4,8 @@ ghost use Rattle.oscillator.specs.Oscillator.{increment_for, fresh, new_of, set_
 ghost use Rattle.answers.specs.Coded.{coded_new, coded_set};
 ghost use Rattle.c_oscillator.specs.CodedNco.{no_nco};
 
-use oscillator::nco::{Increment, Nco, NewNco, SetNco};
+use answers::answer::code_of;
+use oscillator::nco::Nco;
 
 // 0 and the increment, or 100 and the cause's number, and 0.
 #[repr(C)]
@@ -27,9 +28,9 @@ pub extern "C" fn pescrondilu_nco_increment_for(freq: f64, rate: f64) -> CodedIn
     ensures { record { code = result.code; value = result.increment } ≡ coded_new 0 (increment_for freq rate) }
 {
     match oscillator::nco::increment_for(freq, rate) {
-        Increment::Made(increment) => CodedIncrement { code: 0, increment },
-        Increment::Refused(n) => CodedIncrement {
-            code: 100 + n,
+        Ok(increment) => CodedIncrement { code: 0, increment },
+        Err(refusal) => CodedIncrement {
+            code: 100 + refusal.number(),
             increment: 0,
         },
     }
@@ -40,9 +41,9 @@ pub extern "C" fn pescrondilu_nco_new(freq: f64, rate: f64) -> CodedNco
     ensures { record { code = result.code; value = result.nco } ≡ coded_new no_nco (new_of freq rate) }
 {
     match Nco::new(freq, rate) {
-        NewNco::Made(nco) => CodedNco { code: 0, nco },
-        NewNco::Refused(n) => CodedNco {
-            code: 100 + n,
+        Ok(nco) => CodedNco { code: 0, nco },
+        Err(refusal) => CodedNco {
+            code: 100 + refusal.number(),
             nco: Nco { phase: 0, inc: 0 },
         },
     }
@@ -59,10 +60,9 @@ pub extern "C" fn pescrondilu_nco_from_increment(inc: u32) -> Nco
 pub extern "C" fn pescrondilu_nco_set_frequency(o: Nco, freq: f64, rate: f64) -> CodedNco
     ensures { record { code = result.code; value = result.nco } ≡ coded_set (set_frequency_of o freq rate) }
 {
-    match o.set_frequency(freq, rate) {
-        SetNco::Done(nco) => CodedNco { code: 0, nco },
-        SetNco::Refused(n, nco) => CodedNco { code: 100 + n, nco },
-    }
+    let mut nco = o;
+    let code = code_of(nco.set_frequency(freq, rate)).code;
+    CodedNco { code, nco }
 }
 
 #[unsafe(no_mangle)]

@@ -37,11 +37,9 @@ pub fn all_taken(decoders: [DecoderF32; 8]) -> [StereoPllF32; 8]
 {
     let first = taken(decoders[0]);
     let mut records = [first; 8];
-    let mut k = 0usize;
-    while k < 8 {
+    for k in 0..8 {
         let d = decoders[k];
         records[k] = taken(d);
-        k += 1;
     }
     records
 }
@@ -52,11 +50,9 @@ pub fn all_given(records: [StereoPllF32; 8]) -> [DecoderF32; 8]
 {
     let first = given(records[0]);
     let mut decoders = [first; 8];
-    let mut k = 0usize;
-    while k < 8 {
+    for k in 0..8 {
         let t = records[k];
         decoders[k] = given(t);
-        k += 1;
     }
     decoders
 }
@@ -73,7 +69,7 @@ pub extern "C" fn pescrondilu_f32_rack_round(
     sum: &mut [f32],
     difference: &mut [f32],
 ) -> RoundF32
-    ensures fact_1 { record {
+    ensures leaves { record {
       answer = result.answer;
       taken = result.taken;
       sum = sum.new;
@@ -88,7 +84,7 @@ pub extern "C" fn pescrondilu_f32_rack_round(
           sum = sum.old;
           difference = difference.old;
         })) }
-    ensures fact_2 { result.wide ≡ round_wide rack.number allowance table.now
+    ensures wide { result.wide ≡ round_wide rack.number allowance table.now
         (map taken_of (map decoder_of_f32 rack.decoders)) (queues_of waiting.decoders (record {
           mpx = mpx.now;
           pilot = pilot.now;

@@ -35,11 +35,9 @@ pub fn all_taken(decoders: [DecoderQ15; 8]) -> [StereoPllQ15; 8]
 {
     let first = taken(decoders[0]);
     let mut records = [first; 8];
-    let mut k = 0usize;
-    while k < 8 {
+    for k in 0..8 {
         let d = decoders[k];
         records[k] = taken(d);
-        k += 1;
     }
     records
 }
@@ -50,11 +48,9 @@ pub fn all_given(records: [StereoPllQ15; 8]) -> [DecoderQ15; 8]
 {
     let first = given(records[0]);
     let mut decoders = [first; 8];
-    let mut k = 0usize;
-    while k < 8 {
+    for k in 0..8 {
         let t = records[k];
         decoders[k] = given(t);
-        k += 1;
     }
     decoders
 }

@@ -20,7 +20,7 @@ pub extern "C" fn pescrondilu_f32_rack_round_slices(
     sum: &mut [&mut [f32]],
     difference: &mut [&mut [f32]],
 ) -> RoundF32
-    ensures fact_1 { (record {
+    ensures leaves { (record {
       answer = result.answer;
       taken = result.taken;
       sum = map (λ x. x.now) sum.new;
@@ -37,7 +37,7 @@ pub extern "C" fn pescrondilu_f32_rack_round_slices(
         })))
         × (addresses_of sum.new ≡ addresses_of sum.old)
         × (addresses_of difference.new ≡ addresses_of difference.old) }
-    ensures fact_2 { result.wide ≡ round_wide rack.number allowance table.now
+    ensures wide { result.wide ≡ round_wide rack.number allowance table.now
         (map taken_of (map decoder_of_f32 rack.decoders)) (queues_at (record {
           mpx = map (λ x. x.now) mpx.now;
           pilot = map (λ x. x.now) pilot.now;

@@ -8,9 +8,9 @@ ghost use Rattle.rds_blocks.specs.Division.{remainder_of};
 ghost use Rattle.rds.specs.Former.{fresh, group_of};
 ghost use Rattle.c_rds.specs.Coded.{coded_group};
 
-use answers::answer::Code;
+use answers::answer::{Code, code_of};
 use answers::switch::{is_on, switch_of};
-use rds::former::{RdsFormer, RdsWords, group_code};
+use rds::former::{RdsFormer, RdsWords};
 
 // The former's record in C.
 #[repr(C)]
@@ -62,7 +62,7 @@ pub extern "C" fn pescrondilu_rds_group(
     let said = reply.answer;
     let next = reply.former;
     FormerReply {
-        answer: group_code(said),
+        answer: code_of(said),
         former: Former {
             carried: switch_of(next.carried),
         },

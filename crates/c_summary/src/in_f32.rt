@@ -92,7 +92,7 @@ pub extern "C" fn pescrondilu_f32_summary_block(
     changes: &mut [u32],
     magnitude: &mut [f32],
 ) -> SummaryReplyF32
-    ensures fact_1 { record {
+    ensures leaves { record {
       answer = result.answer;
       sum = sum.new;
       difference = difference.new;
@@ -113,7 +113,7 @@ pub extern "C" fn pescrondilu_f32_summary_block(
           changes = changes.old;
           magnitude = magnitude.old;
         })) }
-    ensures fact_2 { result.wide ≡ number_in (summary_count (taken_of (decoder_of_f32 d)) (taken_summary (record_f32 s))
+    ensures wide { result.wide ≡ number_in (summary_count (taken_of (decoder_of_f32 d)) (taken_summary (record_f32 s))
         table.now mpx.now pilot.now sum.old difference.old
         (record {
           stereo = stereo.old;

@@ -8,8 +8,9 @@ use lib.Dec.{eqb}
 use lib.ListN.{length}
 use contract.Lifetimes.{Lfts}
 use Rattle.answers.specs.Answer.{Said, accepted, turned, lengths, rule, length_rule, or_else, says}
-use Rattle.answers.specs.declared.answer.Answer.{Answer}
-use Rattle.answers.specs.declared.answer.Answer.TheVariants as answer
+use Rattle.std.proofs.Common.{Result, Ok, Err}
+use Rattle.answers.specs.declared.answer.Refusal.{Refusal}
+use Rattle.answers.specs.declared.answer.Refusal.TheVariants as cause
 use Rattle.answers.proofs.Causes.{none_yet}
 use Rattle.decoder_record.specs.State.{Pll, enabled_of, reset_of}
 use Rattle.decoder.specs.Machine.{Arithmetic, Blocked, block_says}
@@ -23,6 +24,9 @@ use Rattle.calls.proofs.Steps.{says_of, own_block, block_said, own_summary, summ
 use Rattle.calls.proofs.Agreement.{BlockRight, block_leaves}
 
 -- ---- an answer of the program for whatever the machine says
+abbrev pub Answer : Type 0
+Answer = Result (Unit {0}) Refusal
+
 abbrev Sayable : Said → Type 0
 Sayable s = (a : Answer) × (says a ≡ s)
 
@@ -32,35 +36,35 @@ or_sayable (turned n) t a b = a
 or_sayable (lengths n x y) t a b = a
 
 rule_sayable : (n : ℕ) (b : Bool) → Sayable (turned n) → Sayable (rule n b)
-rule_sayable n true a = (answer.Accepted, refl)
+rule_sayable n true a = (Ok tt, refl)
 rule_sayable n false a = a
 
 length_sayable : (n wanted found : ℕ) → Sayable (lengths n wanted found) → Sayable (length_rule n wanted found)
 length_sayable n wanted found a = go (eqb found wanted)
   where
     go : (b : Bool) → Sayable (cond b accepted (lengths n wanted found))
-    go true = (answer.Accepted, refl)
+    go true = (Ok tt, refl)
     go false = a
 
 output_sayable : (n found : ℕ) (t : Said) → Sayable t → Sayable (or_else (length_rule 11 n found) t)
-output_sayable n found t b = or_sayable (length_rule 11 n found) t (length_sayable 11 n found (answer.Output n found, refl)) b
+output_sayable n found t b = or_sayable (length_rule 11 n found) t (length_sayable 11 n found (Err (cause.Output n found), refl)) b
 
 block_sayable : {A : Type 0} (F : Arithmetic A) (m : Pll A) (t n p s d : ℕ) → Sayable (block_says F m t n p s d)
 block_sayable F m t n p s d =
-    or_sayable (rule 0 (F.fit m)) _ (rule_sayable 0 (F.fit m) (answer.Unfit, refl))
-    (or_sayable (length_rule 9 4097 t) _ (length_sayable 9 4097 t (answer.Table t, refl))
-    (or_sayable (length_rule 10 n p) _ (length_sayable 10 n p (answer.Input n p, refl))
-    (output_sayable n s _ (output_sayable n d accepted (answer.Accepted, refl)))))
+    or_sayable (rule 0 (F.fit m)) _ (rule_sayable 0 (F.fit m) (Err cause.Unfit, refl))
+    (or_sayable (length_rule 9 4097 t) _ (length_sayable 9 4097 t (Err (cause.Table t), refl))
+    (or_sayable (length_rule 10 n p) _ (length_sayable 10 n p (Err (cause.Input n p), refl))
+    (output_sayable n s _ (output_sayable n d accepted (Ok tt, refl)))))
 
 summary_sayable : {A : Type 0} (F : Arithmetic A) (unsigned : A → Bool) (s : Summary A) (own : Said) (n : ℕ) (c : Columns A) → Sayable own → Sayable (summary_says F unsigned s own n c)
 summary_sayable F unsigned s own n c b =
     let places = places_of s.counts n in
-    or_sayable (rule 20 (summary_fit F unsigned s)) _ (rule_sayable 20 (summary_fit F unsigned s) (answer.Summary, refl))
+    or_sayable (rule 20 (summary_fit F unsigned s)) _ (rule_sayable 20 (summary_fit F unsigned s) (Err cause.Summary, refl))
     (or_sayable own _ b
     (output_sayable places (length c.stereo) _
     (output_sayable places (length c.mono) _
     (output_sayable places (length c.changes) _
-    (output_sayable places (length c.magnitude) accepted (answer.Accepted, refl))))))
+    (output_sayable places (length c.magnitude) accepted (Ok tt, refl))))))
 
 -- ---- over every list of calls the contracts allow something
 abbrev lifetimes : Lfts 5

@@ -1,30 +1,38 @@
 -- An answer with a count for each answer and number. Assumes nothing.
 use Prim.Native.Nat.{ℕ}
-use mathlib.Core.Path.{◌≡◌, refl}
-use Rattle.answers.specs.Answer.{says}
-use Rattle.answers.specs.declared.answer.Answer.{Answer}
-use Rattle.answers.specs.declared.answer.Answer.TheVariants as answer
-use Rattle.counted.specs.declared.Counted.{Counted}
-use Rattle.counted.specs.declared.Counted.TheVariants.{Accepted, Refused}
-use Rattle.counted.specs.Counted.{said_in, count_in, carried}
+use mathlib.Core.Path.{◌≡◌, refl, sym, ◌∙◌}
+use Rattle.std.proofs.Common.{Result, Ok, Err}
+use mathlib.Core.Bool.{Bool, true, false, true≢false, false≢true}
+use Rattle.std.specs.Result.{is_err}
+use Rattle.answers.proofs.Causes.{refuses}
+use Rattle.answers.specs.Answer.{Said, accepted, turned, lengths, accepts, says, says_refusal}
+use Rattle.answers.specs.declared.answer.Refusal.{Refusal}
+use Rattle.counted.specs.Counted.{none, said_in, count_in, carried}
 
-abbrev pub counted_by : Answer → ℕ → Counted
-counted_by answer.Accepted n = Accepted n
-counted_by answer.Unfit n = Refused answer.Unfit
-counted_by answer.Summary n = Refused answer.Summary
-counted_by answer.Number n = Refused answer.Number
-counted_by answer.Allowance n = Refused answer.Allowance
-counted_by (answer.Table x) n = Refused (answer.Table x)
-counted_by (answer.Input x y) n = Refused (answer.Input x y)
-counted_by (answer.Output x y) n = Refused (answer.Output x y)
+-- whether an answer is a refusal, by the test of it, b
+module _ {b : Bool} where
+  pub refused_by : (r : Result ℕ Refusal) → b ≡ is_err r → b ≡ true → accepts (said_in r) ≡ false
+  refused_by (Ok n) e h = absurd (false≢true (sym e ∙ h))
+  refused_by (Err refusal) e h = refuses refusal
+
+  pub accepted_by : (r : Result ℕ Refusal) → b ≡ is_err r → b ≡ false → accepts (said_in r) ≡ true
+  accepted_by (Ok n) e h = refl
+  accepted_by (Err refusal) e h = absurd (true≢false (sym e ∙ h))
+
+abbrev pub counted_by : Result Unit Refusal → ℕ → Result ℕ Refusal
+counted_by (Ok done) n = Ok n
+counted_by (Err refusal) n = Err refusal
+
+-- a refusal carries no count
+refused_carries : (s : Said) (n : ℕ) → accepts s ≡ false → none ≡ carried s n
+refused_carries accepted n h = absurd (true≢false h)
+refused_carries (turned k) n h = refl
+refused_carries (lengths k wanted found) n h = refl
+
+pub refusal_carries : (refusal : Refusal) (n : ℕ) → none ≡ carried (says_refusal refusal) n
+refusal_carries refusal n = refused_carries (says_refusal refusal) n (refuses refusal)
 
 -- it says what the answer says, and carries the number where that is accepted
-pub counted_by_lem : (a : Answer) (n : ℕ) → (said_in (counted_by a n) ≡ says a) × (count_in (counted_by a n) ≡ carried (says a) n)
-counted_by_lem answer.Accepted n = (refl, refl)
-counted_by_lem answer.Unfit n = (refl, refl)
-counted_by_lem answer.Summary n = (refl, refl)
-counted_by_lem answer.Number n = (refl, refl)
-counted_by_lem answer.Allowance n = (refl, refl)
-counted_by_lem (answer.Table x) n = (refl, refl)
-counted_by_lem (answer.Input x y) n = (refl, refl)
-counted_by_lem (answer.Output x y) n = (refl, refl)
+pub counted_by_lem : (a : Result Unit Refusal) (n : ℕ) → (said_in (counted_by a n) ≡ says a) × (count_in (counted_by a n) ≡ carried (says a) n)
+counted_by_lem (Ok done) n = (refl, refl)
+counted_by_lem (Err refusal) n = (refl, refusal_carries refusal n)

@@ -1,9 +1,8 @@
 -- What a fast f32 call answers, in document 01's numbers, and the count that it carries. Source: document 02,
 -- request 7: "the block's answer carries how many corrections took the wide way". Definitions only.
-use Rattle.std.specs.Prelude.{ℕ}
-use Rattle.answers.specs.Answer.{Said, accepted, turned, lengths, says}
-use Rattle.counted.specs.declared.Counted.{Counted}
-use Rattle.counted.specs.declared.Counted.TheVariants.{Accepted, Refused}
+use Rattle.std.specs.Prelude.{ℕ, Result, Ok, Err}
+use Rattle.answers.specs.Answer.{Said, accepted, turned, lengths, says_refusal}
+use Rattle.answers.specs.declared.answer.Refusal.{Refusal}
 
 -- a count, or none: a refusal carries none
 pub data Count : Type 0 where
@@ -11,13 +10,13 @@ pub data Count : Type 0 where
   count : ℕ → Count
 
 -- the program's answers in these terms: without the count, and the count alone
-abbrev pub said_in : Counted → Said
-said_in (Accepted n) = accepted
-said_in (Refused a) = says a
+abbrev pub said_in : Result ℕ Refusal → Said
+said_in (Ok n) = accepted
+said_in (Err refusal) = says_refusal refusal
 
-abbrev pub count_in : Counted → Count
-count_in (Accepted n) = count n
-count_in (Refused a) = none
+abbrev pub count_in : Result ℕ Refusal → Count
+count_in (Ok n) = count n
+count_in (Err refusal) = none
 
 -- what a call carries that says this, with n such corrections among its samples
 abbrev pub carried : Said → ℕ → Count

@@ -3,7 +3,7 @@ ghost use Rattle.std.specs.Prelude.{◌≡◌};
 ghost use Rattle.answers.specs.Answer.{says, first_cause};
 ghost use Rattle.decoder.specs.Machine.{length_causes};
 
-use answers::answer::{Answer, table_rule, then_input, then_output};
+use answers::answer::{Refusal, inputs_rule, output_rule};
 
 // The causes 9, 10 and 11 in order; an f32 block has no other.
 pub fn block_lengths(
@@ -12,9 +12,10 @@ pub fn block_lengths(
     pilot: usize,
     sum: usize,
     difference: usize,
-) -> Answer
+) -> Result<(), Refusal>
     ensures { says result ≡ first_cause (length_causes table mpx pilot sum difference) }
 {
-    let a = then_input(table_rule(table), mpx, pilot);
-    then_output(then_output(a, mpx, sum), mpx, difference)
+    inputs_rule(table, mpx, pilot)?;
+    output_rule(mpx, sum)?;
+    output_rule(mpx, difference)
 }

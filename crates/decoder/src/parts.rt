@@ -5,7 +5,7 @@ ghost use Rattle.decoder_record.specs.State.{moved_to};
 ghost use Rattle.decoder_parts.specs.Rules.{phase_after};
 ghost use Rattle.decoder_record.specs.Records.{pll_of_f32};
 
-use answers::answer::{Answer, ENTRIES};
+use answers::answer::{ENTRIES, Refusal};
 use decoder_parts::advance::phase_after;
 use decoder_record::pll_f32::StereoPllF32;
 
@@ -19,7 +19,7 @@ pub struct StepF32 {
 // A decoder after a block, and the block's answer.
 #[derive(Clone, Copy)]
 pub struct ReplyF32 {
-    pub answer: Answer,
+    pub answer: Result<(), Refusal>,
     pub decoder: StereoPllF32,
 }
 

@@ -7,7 +7,6 @@ ghost use Rattle.decoder_record.specs.Records.{pll_of_f32};
 
 use crate::lengths::block_lengths;
 use crate::parts::{ReplyF32, StepF32, advanced, full_table};
-use answers::answer::is_accepted;
 use decoder_parts::in_f32::{accumulated, demodulated, error_of, level_of, stereo_of, within};
 use decoder_record::pll_f32::StereoPllF32;
 use lookup::lookup::{cos_f32, sine_at, sine_at_twice};
@@ -49,15 +48,13 @@ fn run(
         ≡ run_of f32 (pll_of_f32 d) table.now mpx.now pilot.now }
 {
     let mut st = d;
-    let mut i = 0usize;
-    while i < mpx.len() {
+    for i in 0..mpx.len() {
         let x = mpx[i];
         let p = pilot[i];
         let o = step(table, st, x, p);
         sum[i] = x;
         difference[i] = o.difference;
         st = o.next;
-        i += 1;
     }
     st
 }
@@ -87,7 +84,7 @@ pub fn block(
         sum.len(),
         difference.len(),
     );
-    if !is_accepted(answer) {
+    if answer.is_err() {
         return ReplyF32 { answer, decoder: d };
     }
     let cosines = full_table(table);

@@ -10,7 +10,7 @@ use lib.ListN.{length, get_or, set}
 use mir.Syntax.{w64}
 use mir.Val.{Fits, bool_byte}
 use Rattle.answers.specs.Answer.{Said, accepted, turned, lengths, accepts, rule, first_cause}
-use Rattle.counted.specs.Counted.{Count, none, count, carried}
+use Rattle.counted.specs.Counted.{none, count, carried}
 use Rattle.decoder_record.specs.State.{Pll}
 use Rattle.decoder.specs.Machine.{Arithmetic, step_of, state_at, run_of, length_causes}
 use Rattle.decoder.proofs.Loops.{Going, going_start, going_next, going_end}

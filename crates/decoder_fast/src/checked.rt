@@ -16,9 +16,9 @@ use phase::correction::correction_fast;
 
 // One sample.
 pub fn step_checked(table: &[f32], d: StereoPllF32, x: f32, p: f32) -> FastStep
-    ensures fact_1 { record { sum = x; difference = result.difference; pll = pll_of_f32 result.next }
+    ensures leaves { record { sum = x; difference = result.difference; pll = pll_of_f32 result.next }
         ≡ step_of f32 table.now (pll_of_f32 d) x p }
-    ensures fact_2 { result.wide ≡ wide_at f32 is_wide table.now (pll_of_f32 d) p }
+    ensures wide { result.wide ≡ wide_at f32 is_wide table.now (pll_of_f32 d) p }
 {
     let cs = interp_f32_pair(table, d.phase);
     let s2 = cos_f32(table, sine_at_twice(d.phase));
@@ -47,20 +47,19 @@ pub(crate) fn run_checked(
     requires { (length pilot.now ≡ length mpx.now)
         × (length sum.old ≡ length mpx.now)
         × (length difference.old ≡ length mpx.now) }
-    ensures fact_1 { record {
+    ensures leaves { record {
       said = accepted;
       sum = sum.new;
       difference = difference.new;
       pll = pll_of_f32 result.decoder;
     }
         ≡ run_of f32 (pll_of_f32 d) table.now mpx.now pilot.now }
-    ensures fact_2 { result.wide ≡ wide_up_to f32 is_wide table.now mpx.now pilot.now (pll_of_f32 d)
+    ensures wide { result.wide ≡ wide_up_to f32 is_wide table.now mpx.now pilot.now (pll_of_f32 d)
         (length mpx.now) }
 {
     let mut st = d;
     let mut wide = 0usize;
-    let mut i = 0usize;
-    while i < mpx.len() {
+    for i in 0..mpx.len() {
         let x = mpx[i];
         let p = pilot[i];
         let o = step_checked(table, st, x, p);
@@ -68,7 +67,6 @@ pub(crate) fn run_checked(
         difference[i] = o.difference;
         st = o.next;
         wide += o.wide as usize;
-        i += 1;
     }
     FastRun { decoder: st, wide }
 }

@@ -14,7 +14,7 @@ use decoder::parts::advanced;
 use decoder_parts::in_f32::{decided, demodulated, integrated, level_next};
 use decoder_record::pll_f32::StereoPllF32;
 use lookup::lookup::{cos_f32, interp_f32_pair, sine_at_twice};
-use phase::correction::{Quick, correction_plain, correction_quick};
+use phase::correction::{correction_plain, correction_quick};
 
 // A correction, and how many took the wide way, this one among them.
 #[derive(Clone, Copy)]
@@ -36,12 +36,12 @@ struct CleanStep {
 // of either. The count is handed through, so that the quick way has nothing to add.
 fn correction_clean(f: f32, wide: usize) -> Tally
     requires { wide < 2 ^ 63 }
-    ensures fact_1 { result.step ≡ correction_of f }
-    ensures fact_2 { result.wide ≡ wide + cond (is_wide f) 1 0 }
+    ensures step { result.step ≡ correction_of f }
+    ensures wide { result.wide ≡ wide + cond (is_wide f) 1 0 }
 {
     match correction_quick(f) {
-        Quick::Step(step) => Tally { step, wide },
-        Quick::Wide => Tally {
+        Some(step) => Tally { step, wide },
+        None => Tally {
             step: correction_plain(f),
             wide: wide + 1,
         },
@@ -50,11 +50,11 @@ fn correction_clean(f: f32, wide: usize) -> Tally
 
 // One sample, without the test.
 fn step_clean(table: &[f32], d: StereoPllF32, x: f32, p: f32, wide: usize) -> CleanStep
-    requires fact_1 { finite p ≡ true }
-    requires fact_2 { wide < 2 ^ 63 }
-    ensures fact_1 { record { sum = x; difference = result.difference; pll = pll_of_f32 result.next }
+    requires finite { finite p ≡ true }
+    requires room { wide < 2 ^ 63 }
+    ensures leaves { record { sum = x; difference = result.difference; pll = pll_of_f32 result.next }
         ≡ step_of f32 table.now (pll_of_f32 d) x p }
-    ensures fact_2 { result.wide ≡ wide + cond (wide_at f32 is_wide table.now (pll_of_f32 d) p) 1 0 }
+    ensures wide { result.wide ≡ wide + cond (wide_at f32 is_wide table.now (pll_of_f32 d) p) 1 0 }
 {
     let cs = interp_f32_pair(table, d.phase);
     let s2 = cos_f32(table, sine_at_twice(d.phase));
@@ -83,20 +83,19 @@ pub(crate) fn run_clean(
     requires { (length pilot.now ≡ length mpx.now)
         × (length sum.old ≡ length mpx.now)
         × (length difference.old ≡ length mpx.now) × (all_finite pilot.now ≡ true) }
-    ensures fact_1 { record {
+    ensures leaves { record {
       said = accepted;
       sum = sum.new;
       difference = difference.new;
       pll = pll_of_f32 result.decoder;
     }
         ≡ run_of f32 (pll_of_f32 d) table.now mpx.now pilot.now }
-    ensures fact_2 { result.wide ≡ wide_up_to f32 is_wide table.now mpx.now pilot.now (pll_of_f32 d)
+    ensures wide { result.wide ≡ wide_up_to f32 is_wide table.now mpx.now pilot.now (pll_of_f32 d)
         (length mpx.now) }
 {
     let mut st = d;
     let mut wide = 0usize;
-    let mut i = 0usize;
-    while i < mpx.len() {
+    for i in 0..mpx.len() {
         let x = mpx[i];
         let p = pilot[i];
         let o = step_clean(table, st, x, p, wide);
@@ -104,7 +103,6 @@ pub(crate) fn run_clean(
         difference[i] = o.difference;
         st = o.next;
         wide = o.wide;
-        i += 1;
     }
     FastRun { decoder: st, wide }
 }

@@ -16,8 +16,7 @@ ghost use Rattle.decoder_fast.specs.Wide.{count_f32};
 
 use crate::checked::run_checked;
 use crate::clean::run_clean;
-use answers::answer::{ENTRIES, is_accepted};
-use counted::Counted;
+use answers::answer::{ENTRIES, Refusal};
 use decoder::lengths::block_lengths;
 use decoder_record::pll_f32::StereoPllF32;
 use pilot_scan::scan;
@@ -40,7 +39,7 @@ pub(crate) struct FastRun {
 // A decoder after a block, and the block's answer.
 #[derive(Clone, Copy)]
 pub struct FastReply {
-    pub answer: Counted,
+    pub answer: Result<usize, Refusal>,
     pub decoder: StereoPllF32,
 }
 
@@ -79,9 +78,9 @@ pub fn block(
         sum.len(),
         difference.len(),
     );
-    if !is_accepted(answer) {
+    if let Err(refusal) = answer {
         return FastReply {
-            answer: Counted::Refused(answer),
+            answer: Err(refusal),
             decoder: d,
         };
     }
@@ -90,14 +89,14 @@ pub fn block(
         let r = run_clean(d, cosines, mpx, pilot, sum, difference);
         let decoder = r.decoder;
         return FastReply {
-            answer: Counted::Accepted(r.wide),
+            answer: Ok(r.wide),
             decoder,
         };
     }
     let r = run_checked(d, cosines, mpx, pilot, sum, difference);
     let decoder = r.decoder;
     FastReply {
-        answer: Counted::Accepted(r.wide),
+        answer: Ok(r.wide),
         decoder,
     }
 }

@@ -1,17 +1,16 @@
 -- Construction of a decoder, what both formats share: the gains in f64 and the causes 1 to 6. Sources:
 -- document 01, "Calls turned back", "The decoder record"; kernels/stereo.rs (`StereoPllState::new`) for
 -- formulas and the order of operations, "as there". Definitions only.
-use Rattle.std.specs.Prelude.{ℕ, ◌^◌, Bool, false, not, ◌&&◌, List, [], ◌∷◌, pos, Float}
+use Rattle.std.specs.Prelude.{ℕ, ◌^◌, Bool, false, not, ◌&&◌, List, [], ◌∷◌, pos, Float, Result}
 use Rattle.std.specs.Float.{fin, binary32, binary64}
 use Rattle.std.specs.Float.Ieee.{of_bits, mul, div, lt, le, eq}
 use Rattle.std.specs.Float.Ieee.Scale.{finite}
-use Rattle.answers.specs.Answer.{Said, rule, first_cause, Built, made, refused, built_by}
+use Rattle.answers.specs.declared.answer.Refusal.{Refusal}
+use Rattle.answers.specs.Answer.{Said, rule, first_cause, Built, map_built, built_by, says_made}
 use Rattle.numbers.specs.Integers.{mod_z}
 use Rattle.floats.specs.Floats.{nearest, to_format, positive, in_range}
 use Rattle.scale.specs.Scaled.{scaled_of}
 use Rattle.decoder_gains.specs.declared.LoopGains.{LoopGains}
-use Rattle.decoder_gains.specs.declared.Checked.{Checked}
-use Rattle.decoder_gains.specs.declared.Checked.TheVariants.{Good, Refused}
 
 -- what construction fixes, over the format: the gains, the integrator's limit, the lock coefficient, the two
 -- thresholds, and the phase's step a sample
@@ -98,6 +97,5 @@ gains g = record {
   step0 = g.step0;
 }
 
-abbrev pub says_common : Checked → Built (Gains Float)
-says_common (Good g) = made (gains g)
-says_common (Refused n) = refused n
+abbrev pub says_common : Result LoopGains Refusal → Built (Gains Float)
+says_common r = map_built gains (says_made r)

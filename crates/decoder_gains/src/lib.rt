@@ -4,6 +4,7 @@
 ghost use Rattle.std.specs.Prelude.{◌≡◌};
 ghost use Rattle.decoder_gains.specs.Gains.{gains_of, narrows, all_narrow, common_of, gains, says_common};
 
+use answers::answer::Refusal;
 use finite::finite::{is_finite_f32, is_positive_f64};
 use floats::bits::f64_to_f32;
 use numbers::fixed::low32;
@@ -25,13 +26,6 @@ pub struct LoopGains {
     pub on: f64,
     pub off: f64,
     pub step0: u32,
-}
-
-// The gains, or the number of the refusal.
-#[derive(Clone, Copy)]
-pub enum Checked {
-    Good(LoopGains),
-    Refused(u32),
 }
 
 // The formulas of the loop: damping 1/sqrt 2, the natural frequency in radians a sample, and the
@@ -71,27 +65,33 @@ fn are_narrow(g: LoopGains) -> bool
 }
 
 // The causes 1 to 6, in order.
-pub fn common(pilot: f64, natural: f64, level: f64, beta: f64, rate: f64) -> Checked
+pub fn common(
+    pilot: f64,
+    natural: f64,
+    level: f64,
+    beta: f64,
+    rate: f64,
+) -> Result<LoopGains, Refusal>
     ensures { says_common result ≡ common_of pilot natural level beta rate }
 {
     if !is_positive_f64(rate) {
-        return Checked::Refused(1);
+        return Err(Refusal::Rate);
     }
     if !(is_positive_f64(pilot) & (pilot < rate / 4.0)) {
-        return Checked::Refused(2);
+        return Err(Refusal::PilotFrequency);
     }
     if !(is_positive_f64(natural) & (natural <= pilot / 100.0)) {
-        return Checked::Refused(3);
+        return Err(Refusal::NaturalFrequency);
     }
     if !(is_positive_f64(level) & (level <= 1.0)) {
-        return Checked::Refused(4);
+        return Err(Refusal::PilotLevel);
     }
     if !((beta >= 0.0) & (beta <= 1.0)) {
-        return Checked::Refused(5);
+        return Err(Refusal::LockCoefficient);
     }
     let g = gains_of(pilot, natural, level, beta, rate);
     if !are_narrow(g) {
-        return Checked::Refused(6);
+        return Err(Refusal::Narrow);
     }
-    Checked::Good(g)
+    Ok(g)
 }

@@ -14,7 +14,6 @@ ghost use Rattle.decoder_record_q15.specs.Records.{pll_of_q15};
 use crate::parts::{
     ReplyQ15, StepQ15, advanced, block_answer, full_table, level_after, scaled_sum,
 };
-use answers::answer::is_accepted;
 use decoder_fit_q15::fit::is_fit;
 use decoder_parts_q15::in_q15::selected;
 use decoder_record_q15::pll_q15::StereoPllQ15;
@@ -23,8 +22,8 @@ use lookup_q15::in_q15::interp_q15;
 
 // The level after a sample.
 fn level_next(beta: i64, level: i64, q: i64) -> i64
-    requires fact_1 { level_fit beta level ≡ true }
-    requires fact_2 { nat_abs q ≤ 2 ^ 30 }
+    requires level { level_fit beta level ≡ true }
+    requires product { nat_abs q ≤ 2 ^ 30 }
     ensures { result ≡ level_q15 beta level q }
 {
     level_after(beta, level, q, (level + 1073741824) >> 31)
@@ -41,9 +40,9 @@ fn product(a: i16, b: i32) -> i64
 
 // The integrator with a sample's part: ki times p does not wait for the cosine c.
 fn gathered(ki: i64, p: i16, c: i32, integ: i64) -> i64
-    requires fact_1 { nat_abs c ≤ 2 ^ 15 }
-    requires fact_2 { le_z (pos 0) ki ≡ true }
-    requires fact_3 { nat_abs ki * 2 ^ 30 + nat_abs integ < 2 ^ 63 }
+    requires cosine { nat_abs c ≤ 2 ^ 15 }
+    requires gain { le_z (pos 0) ki ≡ true }
+    requires fits { nat_abs ki * 2 ^ 30 + nat_abs integ < 2 ^ 63 }
     ensures { result ≡ ki *ℤ (p *ℤ c) +ℤ integ }
 {
     ki * (p as i64) * (c as i64) + integ
@@ -115,8 +114,7 @@ fn run(
         ≡ run_of q15 (pll_of_q15 d) table.now mpx.now pilot.now }
 {
     let mut st = d;
-    let mut i = 0usize;
-    while i < mpx.len() {
+    for i in 0..mpx.len() {
         let x = mpx[i];
         let p = pilot[i];
         let o = step(table, st, x, p);
@@ -124,7 +122,6 @@ fn run(
         let y = o.difference;
         difference[i] = y;
         st = o.next;
-        i += 1;
     }
     st
 }
@@ -155,7 +152,7 @@ pub fn block(
         sum.len(),
         difference.len(),
     );
-    if !is_accepted(answer) {
+    if answer.is_err() {
         return ReplyQ15 { answer, decoder: d };
     }
     let cosines = full_table(table);

@@ -10,7 +10,7 @@ ghost use Rattle.decoder_record_q15.specs.Fit.{level_fit, guard_of, fit_q15};
 ghost use Rattle.decoder_q15.specs.Q15.{q15, level_q15};
 ghost use Rattle.decoder_record_q15.specs.Records.{pll_of_q15};
 
-use answers::answer::{Answer, ENTRIES};
+use answers::answer::{ENTRIES, Refusal};
 use decoder::lengths::block_lengths;
 use decoder_parts::advance::phase_after;
 use decoder_parts_q15::in_q15::decided;
@@ -27,7 +27,7 @@ pub struct StepQ15 {
 // A decoder after a block, and the block's answer.
 #[derive(Clone, Copy)]
 pub struct ReplyQ15 {
-    pub answer: Answer,
+    pub answer: Result<(), Refusal>,
     pub decoder: StereoPllQ15,
 }
 
@@ -51,8 +51,8 @@ pub(crate) fn within(imax: i64, x: i64) -> i64
 
 // offset + gain * e, for an error of at most 2^30 in size.
 pub(crate) fn scaled_sum(gain: i64, e: i64, offset: i64) -> i64
-    requires fact_1 { nat_abs e ≤ 2 ^ 30 }
-    requires fact_2 { nat_abs gain * 2 ^ 30 + nat_abs offset < 2 ^ 63 }
+    requires error { nat_abs e ≤ 2 ^ 30 }
+    requires fits { nat_abs gain * 2 ^ 30 + nat_abs offset < 2 ^ 63 }
     ensures { result ≡ gain *ℤ e +ℤ offset }
 {
     gain * e + offset
@@ -60,9 +60,9 @@ pub(crate) fn scaled_sum(gain: i64, e: i64, offset: i64) -> i64
 
 // The level after a sample, from the level rounded to 31 places.
 pub(crate) fn level_after(beta: i64, level: i64, q: i64, rounded: i64) -> i64
-    requires fact_1 { level_fit beta level ≡ true }
-    requires fact_2 { nat_abs q ≤ 2 ^ 30 }
-    requires fact_3 { rounded ≡ round_shift_of level 31 }
+    requires level { level_fit beta level ≡ true }
+    requires product { nat_abs q ≤ 2 ^ 30 }
+    requires rounded { rounded ≡ round_shift_of level 31 }
     ensures { result ≡ level_q15 beta level q }
 {
     level + beta * (q - rounded)
@@ -90,10 +90,10 @@ pub(crate) fn advanced(
     largest: i64,
     level: i64,
 ) -> StereoPllQ15
-    requires fact_1 { fit_q15 (pll_of_q15 d) ≡ true }
-    requires fact_2 { nat_abs e ≤ 2 ^ 30 }
-    requires fact_3 { gathered ≡ d.ki *ℤ e +ℤ d.integ }
-    requires fact_4 { le_z (guard_of d.kp d.imax) largest ≡ true }
+    requires fit { fit_q15 (pll_of_q15 d) ≡ true }
+    requires error { nat_abs e ≤ 2 ^ 30 }
+    requires gathered { gathered ≡ d.ki *ℤ e +ℤ d.integ }
+    requires largest { le_z (guard_of d.kp d.imax) largest ≡ true }
     ensures { pll_of_q15 result ≡ advanced_by q15 (pll_of_q15 d) e level (decide_q15 level d.on d.off d.stereo) }
 {
     let integ = within(d.imax, gathered);
@@ -113,11 +113,11 @@ pub fn block_answer(
     pilot: usize,
     sum: usize,
     difference: usize,
-) -> Answer
+) -> Result<(), Refusal>
     ensures { says result ≡ first_cause (rule 0 fit ∷ length_causes table mpx pilot sum difference) }
 {
-    if fit {
-        return block_lengths(table, mpx, pilot, sum, difference);
+    if !fit {
+        return Err(Refusal::Unfit);
     }
-    Answer::Unfit
+    block_lengths(table, mpx, pilot, sum, difference)
 }

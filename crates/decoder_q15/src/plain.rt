@@ -9,7 +9,6 @@ ghost use Rattle.decoder_record_q15.specs.Records.{pll_of_q15};
 use crate::parts::{
     ReplyQ15, StepQ15, advanced, block_answer, full_table, level_after, scaled_sum,
 };
-use answers::answer::is_accepted;
 use decoder_fit_q15::fit::is_fit;
 use decoder_parts_q15::in_q15::selected;
 use decoder_record_q15::pll_q15::StereoPllQ15;
@@ -19,8 +18,8 @@ use numbers::fixed::{q15_mul, q15_product, round_shift};
 
 // The level after a sample.
 fn level_next(beta: i64, level: i64, q: i64) -> i64
-    requires fact_1 { level_fit beta level ≡ true }
-    requires fact_2 { nat_abs q ≤ 2 ^ 30 }
+    requires level { level_fit beta level ≡ true }
+    requires product { nat_abs q ≤ 2 ^ 30 }
     ensures { result ≡ level_q15 beta level q }
 {
     level_after(beta, level, q, round_shift(level, 31))
@@ -60,8 +59,7 @@ fn run(
         ≡ run_of q15 (pll_of_q15 d) table.now mpx.now pilot.now }
 {
     let mut st = d;
-    let mut i = 0usize;
-    while i < mpx.len() {
+    for i in 0..mpx.len() {
         let x = mpx[i];
         let p = pilot[i];
         let o = step(table, st, x, p);
@@ -69,7 +67,6 @@ fn run(
         let y = o.difference;
         difference[i] = y;
         st = o.next;
-        i += 1;
     }
     st
 }
@@ -100,7 +97,7 @@ pub fn block(
         sum.len(),
         difference.len(),
     );
-    if !is_accepted(answer) {
+    if answer.is_err() {
         return ReplyQ15 { answer, decoder: d };
     }
     let cosines = full_table(table);

@@ -1,10 +1,9 @@
 -- The program's f32 record as the machine's state, field by field, and the program's answers. Definitions only.
-use Rattle.std.specs.Prelude.{Float}
-use Rattle.answers.specs.Answer.{Built, made, refused}
+use Rattle.std.specs.Prelude.{Float, Result}
+use Rattle.answers.specs.Answer.{Built, map_built, says_made}
+use Rattle.answers.specs.declared.answer.Refusal.{Refusal}
 use Rattle.decoder_record.specs.State.{Pll}
 use Rattle.decoder_record.specs.declared.pll_f32.StereoPllF32.{StereoPllF32}
-use Rattle.decoder_record.specs.declared.pll_f32.NewF32.{NewF32}
-use Rattle.decoder_record.specs.declared.pll_f32.NewF32.TheVariants as newF32
 
 abbrev pub pll_of_f32 : StereoPllF32 → Pll Float
 pll_of_f32 d = record {
@@ -22,6 +21,5 @@ pll_of_f32 d = record {
 }
 
 -- a construction's answer in document 01's terms
-abbrev pub says_f32 : NewF32 → Built (Pll Float)
-says_f32 (newF32.Made d) = made (pll_of_f32 d)
-says_f32 (newF32.Refused n) = refused n
+abbrev pub says_f32 : Result StereoPllF32 Refusal → Built (Pll Float)
+says_f32 r = map_built pll_of_f32 (says_made r)

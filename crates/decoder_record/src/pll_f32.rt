@@ -6,7 +6,8 @@ ghost use Rattle.lookup.specs.Lookup.{quarter};
 ghost use Rattle.decoder_record.specs.Fresh.{fresh_f32, new_f32_of};
 ghost use Rattle.decoder_record.specs.Records.{pll_of_f32, says_f32};
 
-use decoder_gains::{Checked, LoopGains, common};
+use answers::answer::Refusal;
+use decoder_gains::{LoopGains, common};
 use finite::finite::f32_to_f64;
 use floats::bits::f64_to_f32;
 
@@ -25,13 +26,6 @@ pub struct StereoPllF32 {
     pub level: f32,
     pub stereo: bool,
     pub enabled: bool,
-}
-
-// A fresh decoder, or the number of the refusal.
-#[derive(Clone, Copy)]
-pub enum NewF32 {
-    Made(StereoPllF32),
-    Refused(u32),
 }
 
 // A fresh decoder with these gains.
@@ -72,13 +66,17 @@ impl StereoPllF32 {
         StereoPllF32::QUARTER
     }
 
-    pub fn new(pilot: f64, natural: f64, level: f64, beta: f64, rate: f64) -> NewF32
+    pub fn new(
+        pilot: f64,
+        natural: f64,
+        level: f64,
+        beta: f64,
+        rate: f64,
+    ) -> Result<StereoPllF32, Refusal>
         ensures { says_f32 result ≡ new_f32_of pilot natural level beta rate }
     {
-        match common(pilot, natural, level, beta, rate) {
-            Checked::Good(g) => NewF32::Made(fresh(g)),
-            Checked::Refused(n) => NewF32::Refused(n),
-        }
+        let gains = common(pilot, natural, level, beta, rate)?;
+        Ok(fresh(gains))
     }
 
     pub fn enable(mut self) -> StereoPllF32

@@ -1,7 +1,7 @@
 -- A construction that is accepted makes the fresh record, which is fit: its gains are not negative, beta is at
 -- most 1, and the guards were tested. Assumes nothing.
 use Prim.Native.Nat.{◌^◌}
-use mathlib.Core.Path.{◌≡◌, refl, ◌∙◌, ap, subst}
+use mathlib.Core.Path.{◌≡◌, subst}
 use mathlib.Core.Bool.{true, ◌&&◌}
 use mathlib.Core.List.{◌++◌}
 use native.Mathlib.Omega.{arith}
@@ -9,7 +9,7 @@ use lib.IntN.{ℤ, pos, neg_ℤ}
 use lib.Signed.{le_z}
 use lib.Ieee.{Float}
 use Rattle.rounding.proofs.Lin.{up_neg, dn_neg, le_yes}
-use Rattle.answers.specs.Answer.{accepts, rule, first_cause, made}
+use Rattle.answers.specs.Answer.{accepts, first_cause, made}
 use Rattle.answers.proofs.Causes.{first_append, both, each, rule_passed, built_out}
 use Rattle.answers.proofs.Tests.{and_out}
 use Rattle.decoder_gains.specs.Gains.{Gains, gains_of, causes}

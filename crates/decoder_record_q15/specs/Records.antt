@@ -1,10 +1,9 @@
 -- The program's Q15 record as the machine's state, field by field, and the program's answers. Definitions only.
-use Rattle.std.specs.Prelude.{ℤ}
-use Rattle.answers.specs.Answer.{Built, made, refused}
+use Rattle.std.specs.Prelude.{ℤ, Result}
+use Rattle.answers.specs.Answer.{Built, map_built, says_made}
+use Rattle.answers.specs.declared.answer.Refusal.{Refusal}
 use Rattle.decoder_record.specs.State.{Pll}
 use Rattle.decoder_record_q15.specs.declared.pll_q15.StereoPllQ15.{StereoPllQ15}
-use Rattle.decoder_record_q15.specs.declared.pll_q15.NewQ15.{NewQ15}
-use Rattle.decoder_record_q15.specs.declared.pll_q15.NewQ15.TheVariants as newQ15
 
 abbrev pub pll_of_q15 : StereoPllQ15 → Pll ℤ
 pll_of_q15 d = record {
@@ -22,6 +21,5 @@ pll_of_q15 d = record {
 }
 
 -- a construction's answer in document 01's terms
-abbrev pub says_q15 : NewQ15 → Built (Pll ℤ)
-says_q15 (newQ15.Made d) = made (pll_of_q15 d)
-says_q15 (newQ15.Refused n) = refused n
+abbrev pub says_q15 : Result StereoPllQ15 Refusal → Built (Pll ℤ)
+says_q15 r = map_built pll_of_q15 (says_made r)

@@ -7,7 +7,8 @@ ghost use Rattle.lookup.specs.Lookup.{quarter};
 ghost use Rattle.decoder_record_q15.specs.Fresh.{fresh_q15, holds64, all_hold, build_q15, new_q15_of, fraction};
 ghost use Rattle.decoder_record_q15.specs.Records.{pll_of_q15, says_q15};
 
-use decoder_gains::{Checked, LoopGains, common};
+use answers::answer::Refusal;
+use decoder_gains::{LoopGains, common};
 use floats::bits::{floor_f64, i64_to_f64};
 use scale::scale::floor_scaled;
 
@@ -27,13 +28,6 @@ pub struct StereoPllQ15 {
     pub level: i64,
     pub stereo: bool,
     pub enabled: bool,
-}
-
-// A fresh decoder, or the number of the refusal.
-#[derive(Clone, Copy)]
-pub enum NewQ15 {
-    Made(StereoPllQ15),
-    Refused(u32),
 }
 
 // The scales of the gains.
@@ -98,20 +92,20 @@ fn fresh(g: LoopGains) -> StereoPllQ15
 }
 
 // The causes 7 and 8, in order.
-fn build(g: LoopGains) -> NewQ15
+fn build(g: LoopGains) -> Result<StereoPllQ15, Refusal>
     ensures { says_q15 result ≡ build_q15 (gains g) }
 {
     let d = fresh(g);
     if !(all_hold(g) & (guard_fits(d.kp, d.imax) & guard_fits(d.ki, d.imax))) {
-        return NewQ15::Refused(7);
+        return Err(Refusal::Wide);
     }
     if d.ki == 0 {
-        return NewQ15::Refused(8);
+        return Err(Refusal::ZeroGain);
     }
     if d.beta == 0 {
-        return NewQ15::Refused(8);
+        return Err(Refusal::ZeroGain);
     }
-    NewQ15::Made(d)
+    Ok(d)
 }
 
 impl StereoPllQ15 {
@@ -132,13 +126,17 @@ impl StereoPllQ15 {
         StereoPllQ15::QUARTER
     }
 
-    pub fn new(pilot: f64, natural: f64, level: f64, beta: f64, rate: f64) -> NewQ15
+    pub fn new(
+        pilot: f64,
+        natural: f64,
+        level: f64,
+        beta: f64,
+        rate: f64,
+    ) -> Result<StereoPllQ15, Refusal>
         ensures { says_q15 result ≡ new_q15_of pilot natural level beta rate }
     {
-        match common(pilot, natural, level, beta, rate) {
-            Checked::Good(g) => build(g),
-            Checked::Refused(n) => NewQ15::Refused(n),
-        }
+        let gains = common(pilot, natural, level, beta, rate)?;
+        build(gains)
     }
 
     pub fn enable(mut self) -> StereoPllQ15

@@ -6,10 +6,6 @@ use Rattle.answers.specs.Answer.{map_built}
 use Rattle.decoder_record.specs.State.{Pll}
 use Rattle.decoder_record.specs.Records.{pll_of_f32, says_f32}
 use Rattle.decoder_record_q15.specs.Records.{pll_of_q15, says_q15}
-use Rattle.decoder_record.specs.declared.pll_f32.NewF32.{NewF32}
-use Rattle.decoder_record.specs.declared.pll_f32.NewF32.TheVariants as f32-new
-use Rattle.decoder_record_q15.specs.declared.pll_q15.NewQ15.{NewQ15}
-use Rattle.decoder_record_q15.specs.declared.pll_q15.NewQ15.TheVariants as q15-new
 use Rattle.decoder_record_q15.proofs.Fit.{fitted}
 use Rattle.decoder_record.proofs.Fresh.{made_f32}
 use Rattle.decoder_record_q15.proofs.Fresh.{made_q15, fit_new}
@@ -21,7 +17,7 @@ use Rattle.calls.proofs.LimitF32.{bounded_new, bounded_always}
 use Rattle.calls.proofs.LimitQ15.{fit_always}
 use Rattle.calls.proofs.Summaries.{summary_claims}
 use Rattle.calls.proofs.Agreement.{own_matrix, own_summary_lem, Shown, demand}
-use Rattle.demand.proofs.Functions.{F32, built_f32, Q15, built_q15, Demand3, Request4}
+use Rattle.demand.proofs.Functions.{F32, Q15, Demand3, Request4}
 use Rattle.demand.proofs.Witness.{some_f32, plainly_f32, fastly_f32, some_q15, plainly_q15, fastly_q15}
 use Rattle.decoder_record.proofs.pll_f32.StereoPllF32.new.Reads as f32-make
 use Rattle.decoder_record.proofs.pll_f32.StereoPllF32.new.Symbol as f32-make-symbol
@@ -72,15 +68,6 @@ use Rattle.decoder_record_q15.proofs.pll_q15.StereoPllQ15.reset.Reads as q15-res
 use Rattle.decoder_record_q15.proofs.pll_q15.StereoPllQ15.reset.Symbol as q15-reset-symbol
 use Rattle.decoder_record_q15.proofs.pll_q15.StereoPllQ15.reset.Met as q15-reset-met
 
--- construction's answer in the machine's terms is what its contract speaks of
-built_f32_lem : (r : NewF32) → map_built pll_of_f32 (built_f32 r) ≡ says_f32 r
-built_f32_lem (f32-new.Made d) = refl
-built_f32_lem (f32-new.Refused n) = refl
-
-built_q15_lem : (r : NewQ15) → map_built pll_of_q15 (built_q15 r) ≡ says_q15 r
-built_q15_lem (q15-new.Made d) = refl
-built_q15_lem (q15-new.Refused n) = refl
-
 pub shown_f32 : Shown F32
 shown_f32 = record {
   plain_right = λ κs d t x p y z r y' z' h. h;
@@ -89,7 +76,7 @@ shown_f32 = record {
   summary_right = λ κs d s t x p y z e f g m r y' z' e' f' g' m' h. h.0;
   unsigned_shown = unsigned_f32_lem;
   sets_right = record { enables = λ d e h. h; disables = λ d e h. h; resets = λ d e h. h };
-  make_right = λ a r h. built_f32_lem r ∙ h;
+  make_right = λ a r h. h;
   mono_new = λ a m h. sym (ap (λ (d : Pll Float). d.moving.stereo) (made_f32 a.pilot a.natural a.level a.beta a.rate m h).1);
   limited = λ a m h es u. let b = bounded_always m es (bounded_new a.pilot a.natural a.level a.beta a.rate m h) u in (b.low, b.high);
   some_decoder = some_f32;
@@ -105,7 +92,7 @@ shown_q15 = record {
   summary_right = λ κs d s t x p y z e f g m r y' z' e' f' g' m' h. h;
   unsigned_shown = unsigned_q15_lem;
   sets_right = record { enables = λ d e h. h; disables = λ d e h. h; resets = λ d e h. h };
-  make_right = λ a r h. built_q15_lem r ∙ h;
+  make_right = λ a r h. h;
   mono_new = λ a m h. sym (ap (λ (d : Pll ℤ). d.moving.stereo) (made_q15 a.pilot a.natural a.level a.beta a.rate m h).2);
   limited = λ a m h es s. let f = fit_always m es (fit_new a.pilot a.natural a.level a.beta a.rate m h) s in ((fitted (after q15 m es) f).integ, f);
   some_decoder = some_q15;

@@ -8,18 +8,16 @@ use mathlib.Core.Path.{◌≡◌}
 use lib.Dec.{T}
 use lib.IntN.{ℤ, neg_ℤ}
 use lib.Ieee.{Float, neg, le}
-use Rattle.answers.specs.Answer.{says, Built, made, refused}
+use Rattle.std.proofs.Common.{Result}
+use Rattle.answers.specs.declared.answer.Refusal.{Refusal}
+use Rattle.answers.specs.Answer.{says, says_made}
 use Rattle.decoder_record_q15.specs.Fit.{within_z, fit_q15}
 use Rattle.decoder_record.specs.Fresh.{new_f32_of}
 use Rattle.decoder_record_q15.specs.Fresh.{new_q15_of}
 use Rattle.decoder_record.specs.Records.{pll_of_f32}
 use Rattle.decoder_record_q15.specs.Records.{pll_of_q15}
 use Rattle.decoder_record.specs.declared.pll_f32.StereoPllF32.{StereoPllF32}
-use Rattle.decoder_record.specs.declared.pll_f32.NewF32.{NewF32}
-use Rattle.decoder_record.specs.declared.pll_f32.NewF32.TheVariants as f32-new
 use Rattle.decoder_record_q15.specs.declared.pll_q15.StereoPllQ15.{StereoPllQ15}
-use Rattle.decoder_record_q15.specs.declared.pll_q15.NewQ15.{NewQ15}
-use Rattle.decoder_record_q15.specs.declared.pll_q15.NewQ15.TheVariants as q15-new
 use Rattle.counted.specs.Counted.{said_in}
 use Rattle.decoder.specs.declared.parts.ReplyF32.{ReplyF32}
 use Rattle.decoder_fast.specs.declared.FastReply.{FastReply}
@@ -84,23 +82,15 @@ use Rattle.decoder_record_q15.proofs.pll_q15.StereoPllQ15.reset.Reads as q15-res
 use Rattle.decoder_record_q15.proofs.pll_q15.StereoPllQ15.reset.Kinds as q15-reset-kinds
 use Rattle.decoder_record_q15.proofs.pll_q15.StereoPllQ15.reset.Symbol as q15-reset-symbol
 
-abbrev pub built_f32 : NewF32 → Built StereoPllF32
-built_f32 (f32-new.Made d) = made d
-built_f32 (f32-new.Refused n) = refused n
-
-abbrev pub built_q15 : NewQ15 → Built StereoPllQ15
-built_q15 (q15-new.Made d) = made d
-built_q15 (q15-new.Refused n) = refused n
-
 -- f32: the integrator is in -imax..=imax if every table entry of the accepted blocks lies in -1 to 1
-abbrev pub F32 : Format Float StereoPllF32 ReplyF32 FastReply NewF32 SummaryF32 SummarizedF32
+abbrev pub F32 : Format Float StereoPllF32 ReplyF32 FastReply (Result StereoPllF32 Refusal) SummaryF32 SummarizedF32
 F32 = record {
   core = core_f32;
   new_of = λ a. new_f32_of a.pilot a.natural a.level a.beta a.rate;
   state = pll_of_f32;
   plain_reply = λ r. record { said = says r.answer; decoder = r.decoder };
   fast_reply = λ r. record { said = said_in r.answer; decoder = r.decoder };
-  built = built_f32;
+  built = says_made;
   summary_state = summary_of_f32;
   replied = λ r. record { said = said_in r.answer; decoder = r.decoder; summary = r.summary };
   make = λ a r. f32-make.Learnt tt (a.pilot, (a.natural, (a.level, (a.beta, (a.rate, tt))))) r (a.pilot, (a.natural, (a.level, (a.beta, (a.rate, tt)))));
@@ -116,14 +106,14 @@ F32 = record {
 }
 
 -- Q15: the integrator is in -imax..=imax, and the record is fit, so that cause 0 is never met
-abbrev pub Q15 : Format ℤ StereoPllQ15 ReplyQ15 ReplyQ15 NewQ15 SummaryQ15 SummarizedQ15
+abbrev pub Q15 : Format ℤ StereoPllQ15 ReplyQ15 ReplyQ15 (Result StereoPllQ15 Refusal) SummaryQ15 SummarizedQ15
 Q15 = record {
   core = core_q15;
   new_of = λ a. new_q15_of a.pilot a.natural a.level a.beta a.rate;
   state = pll_of_q15;
   plain_reply = λ r. record { said = says r.answer; decoder = r.decoder };
   fast_reply = λ r. record { said = says r.answer; decoder = r.decoder };
-  built = built_q15;
+  built = says_made;
   summary_state = summary_of_q15;
   replied = λ r. record { said = says r.answer; decoder = r.decoder; summary = r.summary };
   make = λ a r. q15-make.Learnt tt (a.pilot, (a.natural, (a.level, (a.beta, (a.rate, tt))))) r (a.pilot, (a.natural, (a.level, (a.beta, (a.rate, tt)))));

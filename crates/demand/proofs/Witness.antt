@@ -9,7 +9,7 @@ use lib.IntN.{ℤ, pos, negsuc}
 use lib.Ieee.{Float, fin, of_bits, round, to_signed, add, mul, div, lt, le, eq}
 use Rattle.rounding.specs.Cut.{rest_of, cut_by}
 use Rattle.answers.specs.Answer.{Said, says, made}
-use Rattle.answers.specs.declared.answer.Answer.{Answer}
+use Rattle.std.proofs.Common.{Ok}
 use Rattle.counted.specs.Counted.{count_in, carried}
 use Rattle.counted.proofs.Answers.{counted_by, counted_by_lem}
 use Rattle.phase.specs.Correction.{is_wide}
@@ -20,9 +20,7 @@ use Rattle.decoder_record.specs.State.{Pll}
 use Rattle.decoder_record.specs.Fresh.{fresh_f32, new_f32_of}
 use Rattle.decoder_record_q15.specs.Fresh.{fresh_q15, new_q15_of}
 use Rattle.decoder_record.specs.declared.pll_f32.StereoPllF32.{StereoPllF32}
-use Rattle.decoder_record.specs.declared.pll_f32.NewF32.TheVariants as f32-new
 use Rattle.decoder_record_q15.specs.declared.pll_q15.StereoPllQ15.{StereoPllQ15}
-use Rattle.decoder_record_q15.specs.declared.pll_q15.NewQ15.TheVariants as q15-new
 use Rattle.decoder_record.specs.Records.{pll_of_f32}
 use Rattle.decoder.specs.Machine.{Blocked}
 use Rattle.decoder.specs.F32.{f32}
@@ -35,7 +33,7 @@ use Rattle.summary.specs.Wide.{summary_count}
 use Rattle.calls.specs.Calls.{Brought, Call, Left}
 use Rattle.calls.specs.Demand.{Arguments, Constructed, plain_decoder, fast_decoder, Runs}
 use Rattle.calls.proofs.Steps.{says_of, block_said, says_summary, summary_said}
-use Rattle.calls.proofs.Allowed.{merged_said, Allows, plainly, fastly}
+use Rattle.calls.proofs.Allowed.{Answer, merged_said, Allows, plainly, fastly}
 use Rattle.demand.proofs.Functions.{F32, Q15}
 
 -- ---- a record for each of the machine's states
@@ -149,10 +147,10 @@ abbrev pub some_record : StereoPllF32
 some_record = record_f32 (fresh_f32 some_gains)
 
 pub some_made : Constructed F32 some_arguments some_record
-some_made = (f32-new.Made some_record, sym made_f32, refl)
+some_made = (Ok some_record, sym made_f32, refl)
 
 pub some_f32 : (a : Arguments) × (d : StereoPllF32) × Constructed F32 a d
 some_f32 = (some_arguments, some_record, some_made)
 
 pub some_q15 : (a : Arguments) × (d : StereoPllQ15) × Constructed Q15 a d
-some_q15 = let d = record_q15 (fresh_q15 some_gains) in (some_arguments, d, (q15-new.Made d, sym made_q15, refl))
+some_q15 = let d = record_q15 (fresh_q15 some_gains) in (some_arguments, d, (Ok d, sym made_q15, refl))

@@ -6,16 +6,16 @@ ghost use Rattle.std.specs.Float.Ieee.{add, mul};
 ghost use Rattle.answers.specs.Answer.{says, entries};
 ghost use Rattle.answers.specs.Samples.{samples};
 ghost use Rattle.lookup.specs.Lookup.{sine_at, cos_f32};
-ghost use Rattle.encoder.specs.Multiplex.{mixed_of, multiplex_of, phase_at, encode_of};
+ghost use Rattle.encoder.specs.Multiplex.{mixed_of, multiplex_of, phase_at, encode_says, encode_of};
 
-use answers::answer::{Answer, ENTRIES, is_accepted, table_rule, then_input, then_output};
+use answers::answer::{ENTRIES, Refusal, inputs_rule, output_rule};
 use encoder_record::encode::StereoEncode;
 use lookup::lookup::{cos_f32, sine_at, sine_at_twice};
 
 // What a block answers, and the encoder after it.
 #[derive(Clone, Copy)]
 pub struct EncodeReply {
-    pub answer: Answer,
+    pub answer: Result<(), Refusal>,
     pub encoder: StereoEncode,
 }
 
@@ -35,11 +35,9 @@ fn subcarrier(e: StereoEncode, table: &[f32], output: &mut [f32])
 {
     let mut at = e.nco.phase;
     let inc = e.nco.inc;
-    let mut i = 0usize;
-    while i < output.len() {
+    for i in 0..output.len() {
         output[i] = cos_f32(table, sine_at_twice(at));
         at = std::num::wrapping_add_u32(at, inc);
-        i += 1;
     }
 }
 
@@ -50,32 +48,28 @@ fn mix(main: f32, left: &[f32], right: &[f32], output: &mut [f32])
         ≡ samples (length left.now) (λ i. mixed_of main
         (slice_index_or left.now i nan) (slice_index_or right.now i nan) (slice_index_or output.old i nan)) }
 {
-    let mut i = 0usize;
-    while i < left.len() {
+    for i in 0..left.len() {
         let l = left[i];
         let r = right[i];
         let s2 = output[i];
         output[i] = mixed(main, l, r, s2);
-        i += 1;
     }
 }
 
 // The pilot is added to each sample; the next phase comes back.
 fn add_pilot(e: StereoEncode, table: &[f32], output: &mut [f32]) -> u32
-    ensures fact_1 { result ≡ phase_at e (length output.old) }
-    ensures fact_2 { output.new
+    ensures phase { result ≡ phase_at e (length output.old) }
+    ensures samples { output.new
         ≡ samples (length output.old) (λ i. add binary32 (slice_index_or output.old i nan)
         (mul binary32 e.pilot (cos_f32 table.now (sine_at 1 (phase_at e i))))) }
 {
     let mut p = e.nco.phase;
     let inc = e.nco.inc;
-    let mut i = 0usize;
-    while i < output.len() {
+    for i in 0..output.len() {
         let x = output[i];
         let s1 = cos_f32(table, sine_at(p));
         output[i] = x + e.pilot * s1;
         p = std::num::wrapping_add_u32(p, inc);
-        i += 1;
     }
     p
 }
@@ -93,8 +87,8 @@ fn full_table(table: &[f32]) -> &[f32]
 fn run(e: StereoEncode, table: &[f32], left: &[f32], right: &[f32], output: &mut [f32]) -> u32
     requires { (length table.now ≡ entries)
         × (length right.now ≡ length left.now) × (length output.old ≡ length left.now) }
-    ensures fact_1 { result ≡ phase_at e (length left.now) }
-    ensures fact_2 { output.new
+    ensures phase { result ≡ phase_at e (length left.now) }
+    ensures samples { output.new
         ≡ samples (length left.now) (λ i. multiplex_of table.now e.main e.pilot (phase_at e i)
         (slice_index_or left.now i nan) (slice_index_or right.now i nan)) }
 {
@@ -102,6 +96,14 @@ fn run(e: StereoEncode, table: &[f32], left: &[f32], right: &[f32], output: &mut
     subcarrier(e, cosines, output);
     mix(e.main, left, right, output);
     add_pilot(e, cosines, output)
+}
+
+// The answer by the lengths.
+fn encode_lengths(table: usize, left: usize, right: usize, output: usize) -> Result<(), Refusal>
+    ensures { says result ≡ encode_says table left right output }
+{
+    inputs_rule(table, left, right)?;
+    output_rule(left, output)
 }
 
 // A block of left and right to the multiplex.
@@ -115,10 +117,8 @@ pub fn encode(
     ensures { record { said = says result.answer; output = output.new; encoder = result.encoder }
         ≡ encode_of e table.now left.now right.now output.old }
 {
-    let n = left.len();
-    let a = then_input(table_rule(table.len()), n, right.len());
-    let answer = then_output(a, n, output.len());
-    if !is_accepted(answer) {
+    let answer = encode_lengths(table.len(), left.len(), right.len(), output.len());
+    if answer.is_err() {
         return EncodeReply { answer, encoder: e };
     }
     let p = run(e, table, left, right, output);

@@ -6,16 +6,16 @@ ghost use Rattle.answers.specs.Answer.{says, entries};
 ghost use Rattle.answers.specs.Samples.{samples};
 ghost use Rattle.lookup.specs.Lookup.{sine_at, cos_f32};
 ghost use Rattle.encoder.specs.Multiplex.{phase_at};
-ghost use Rattle.encoder_rds.specs.MultiplexRds.{encode_rds_of};
+ghost use Rattle.encoder_rds.specs.MultiplexRds.{encode_rds_says, encode_rds_of};
 
-use answers::answer::{Answer, ENTRIES, is_accepted, table_rule, then_input, then_output};
+use answers::answer::{ENTRIES, Refusal, input_rule, inputs_rule, output_rule};
 use encoder_record_rds::rds::StereoEncodeRds;
 use lookup::lookup::{cos_f32, sine_at_thrice};
 
 // What a block answers, and the encoder after it.
 #[derive(Clone, Copy)]
 pub struct EncodeRdsReply {
-    pub answer: Answer,
+    pub answer: Result<(), Refusal>,
     pub encoder: StereoEncodeRds,
 }
 
@@ -39,15 +39,28 @@ fn add_rds(e: StereoEncodeRds, table: &[f32], rds: &[f32], output: &mut [f32])
     let level = e.rds;
     let mut p = enc.nco.phase;
     let inc = enc.nco.inc;
-    let mut i = 0usize;
-    while i < rds.len() {
+    for i in 0..rds.len() {
         let x = output[i];
         let b = rds[i];
         let s3 = cos_f32(table, sine_at_thrice(p));
         output[i] = x + (level * b) * s3;
         p = std::num::wrapping_add_u32(p, inc);
-        i += 1;
     }
+}
+
+// The answer by the lengths.
+fn encode_lengths(
+    table: usize,
+    left: usize,
+    right: usize,
+    rds: usize,
+    output: usize,
+) -> Result<(), Refusal>
+    ensures { says result ≡ encode_rds_says table left right rds output }
+{
+    inputs_rule(table, left, right)?;
+    input_rule(left, rds)?;
+    output_rule(left, output)
 }
 
 // A block of left, right and the RDS baseband to the multiplex.
@@ -63,11 +76,14 @@ pub fn encode(
         ≡ encode_rds_of e
         table.now left.now right.now rds.now output.old }
 {
-    let n = left.len();
-    let a = then_input(table_rule(table.len()), n, right.len());
-    let b = then_input(a, n, rds.len());
-    let answer = then_output(b, n, output.len());
-    if !is_accepted(answer) {
+    let answer = encode_lengths(
+        table.len(),
+        left.len(),
+        right.len(),
+        rds.len(),
+        output.len(),
+    );
+    if answer.is_err() {
         return EncodeRdsReply { answer, encoder: e };
     }
     let enc = e.enc;

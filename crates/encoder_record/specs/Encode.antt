@@ -3,14 +3,10 @@
 use Rattle.std.specs.Prelude.{ℕ, Bool, false, List, [], ◌∷◌, pos, Float}
 use Rattle.std.specs.Float.{fin, binary32, binary64}
 use Rattle.std.specs.Float.Ieee.{div, le}
-use Rattle.answers.specs.Answer.{Said, rule, first_cause, Built, made, refused, built_by, Changed, changed, unchanged, changed_by}
+use Rattle.answers.specs.Answer.{Said, rule, first_cause, Built, built_by, Changed, changed_by}
 use Rattle.oscillator.specs.Oscillator.{increment_of, fresh, phase_set}
 use Rattle.floats.specs.Floats.{nearest, positive, in_range}
 use Rattle.encoder_record.specs.declared.encode.StereoEncode.{StereoEncode}
-use Rattle.encoder_record.specs.declared.encode.NewEncode.{NewEncode}
-use Rattle.encoder_record.specs.declared.encode.NewEncode.TheVariants as new
-use Rattle.encoder_record.specs.declared.encode.SetEncode.{SetEncode}
-use Rattle.encoder_record.specs.declared.encode.SetEncode.TheVariants as set
 
 -- ---- construction: the causes 1, 12, 13, 14, 15 in order, then 16
 abbrev zero : Float
@@ -46,12 +42,3 @@ set_pilot_of e x = changed_by (rule 14 (good_level x)) (record { nco = e.nco; ma
 
 abbrev pub encode_at : StereoEncode → ℕ → StereoEncode
 encode_at e p = record { nco = phase_set e.nco p; main = e.main; pilot = e.pilot }
-
--- ---- the program's answers in document 01's terms
-abbrev pub says_new : NewEncode → Built StereoEncode
-says_new (new.Made e) = made e
-says_new (new.Refused n) = refused n
-
-abbrev pub says_set : SetEncode → Changed StereoEncode
-says_set (set.Done e) = changed e
-says_set (set.Refused n e) = unchanged n e

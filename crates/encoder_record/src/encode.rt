@@ -1,7 +1,9 @@
 // The stereo multiplex encoder's record: construction, set calls and read-outs.
 ghost use Rattle.std.specs.Prelude.{◌≡◌};
-ghost use Rattle.encoder_record.specs.Encode.{good_level, new_of, set_pilot_of, encode_at, says_new, says_set};
+ghost use Rattle.answers.specs.Answer.{says_made, says_changed};
+ghost use Rattle.encoder_record.specs.Encode.{good_level, new_of, set_pilot_of, encode_at};
 
+use answers::answer::Refusal;
 use finite::finite::is_positive_f64;
 use oscillator::nco::{Nco, increment_of};
 
@@ -14,20 +16,6 @@ pub struct StereoEncode {
     pub pilot: f32,
 }
 
-// A new encoder, or the number of the refusal.
-#[derive(Clone, Copy)]
-pub enum NewEncode {
-    Made(StereoEncode),
-    Refused(u32),
-}
-
-// The changed encoder, or the number of the refusal and the encoder as it was.
-#[derive(Clone, Copy)]
-pub enum SetEncode {
-    Done(StereoEncode),
-    Refused(u32, StereoEncode),
-}
-
 // Whether a pilot amplitude or an RDS level is allowed.
 pub fn good_level(x: f32) -> bool
     ensures { result ≡ good_level x }
@@ -37,44 +25,41 @@ pub fn good_level(x: f32) -> bool
 
 impl StereoEncode {
     // The causes 1, 12, 13, 14 and 15, in order.
-    pub fn new(frequency: f64, main: f32, pilot: f32, rate: f64) -> NewEncode
-        ensures { says_new result ≡ new_of frequency main pilot rate }
+    pub fn new(frequency: f64, main: f32, pilot: f32, rate: f64) -> Result<StereoEncode, Refusal>
+        ensures { says_made result ≡ new_of frequency main pilot rate }
     {
         if !is_positive_f64(rate) {
-            return NewEncode::Refused(1);
+            return Err(Refusal::Rate);
         }
         if !((frequency >= 18000.0) & (frequency <= 20000.0)) {
-            return NewEncode::Refused(12);
+            return Err(Refusal::EncoderPilot);
         }
         if !((main >= 0.0) & (main <= 1.0)) {
-            return NewEncode::Refused(13);
+            return Err(Refusal::MainGain);
         }
         if !good_level(pilot) {
-            return NewEncode::Refused(14);
+            return Err(Refusal::PilotAmplitude);
         }
         if !(rate >= 120000.0) {
-            return NewEncode::Refused(15);
+            return Err(Refusal::EncoderRate);
         }
         let inc = increment_of(frequency / rate);
-        NewEncode::Made(StereoEncode {
+        Ok(StereoEncode {
             nco: Nco { phase: 0, inc },
             main,
             pilot,
         })
     }
 
-    pub fn set_pilot(self, pilot: f32) -> SetEncode
-        ensures { says_set result ≡ set_pilot_of self pilot }
+    pub fn set_pilot(&mut self, pilot: f32) -> Result<(), Refusal>
+        ensures { says_changed result self.new ≡ set_pilot_of self.old pilot }
     {
+        // tested first: a refused call leaves the encoder as it was
         if !good_level(pilot) {
-            return SetEncode::Refused(14, self);
+            return Err(Refusal::PilotAmplitude);
         }
-        let nco = self.nco;
-        SetEncode::Done(StereoEncode {
-            nco,
-            main: self.main,
-            pilot,
-        })
+        self.pilot = pilot;
+        Ok(())
     }
 
     pub fn pilot(self) -> f32

@@ -1,13 +1,9 @@
 -- The record of the encoder with RDS: construction and set calls. Sources: document 01, "`StereoEncode`", "Calls
 -- turned back". Definitions only.
 use Rattle.std.specs.Prelude.{ℕ, [], ◌∷◌, ◌++◌, Float}
-use Rattle.answers.specs.Answer.{rule, first_cause, Built, made, refused, built_by, Changed, changed, unchanged, changed_by}
+use Rattle.answers.specs.Answer.{rule, first_cause, Built, built_by, Changed, changed_by}
 use Rattle.encoder_record.specs.Encode.{good_level, causes, encoder_of, encode_at}
 use Rattle.encoder_record_rds.specs.declared.rds.StereoEncodeRds.{StereoEncodeRds}
-use Rattle.encoder_record_rds.specs.declared.rds.NewEncodeRds.{NewEncodeRds}
-use Rattle.encoder_record_rds.specs.declared.rds.NewEncodeRds.TheVariants as newRds
-use Rattle.encoder_record_rds.specs.declared.rds.SetEncodeRds.{SetEncodeRds}
-use Rattle.encoder_record_rds.specs.declared.rds.SetEncodeRds.TheVariants as setRds
 
 -- ---- construction: the causes of the encoder without RDS, then 16
 unfoldable pub new_rds_of : Float → Float → Float → Float → Float → Built StereoEncodeRds
@@ -26,12 +22,3 @@ set_rds_of e x = changed_by (rule 16 (good_level x)) (record { enc = e.enc; rds 
 
 abbrev pub rds_at : StereoEncodeRds → ℕ → StereoEncodeRds
 rds_at e p = record { enc = encode_at e.enc p; rds = e.rds }
-
--- ---- the program's answers in document 01's terms
-abbrev pub says_new_rds : NewEncodeRds → Built StereoEncodeRds
-says_new_rds (newRds.Made e) = made e
-says_new_rds (newRds.Refused n) = refused n
-
-abbrev pub says_set_rds : SetEncodeRds → Changed StereoEncodeRds
-says_set_rds (setRds.Done e) = changed e
-says_set_rds (setRds.Refused n e) = unchanged n e

@@ -1,8 +1,10 @@
 // The record of the multiplex encoder with RDS: construction, set calls and read-outs.
 ghost use Rattle.std.specs.Prelude.{◌≡◌};
-ghost use Rattle.encoder_record_rds.specs.EncodeRds.{new_rds_of, set_rds_of, set_rds_pilot_of, rds_at, says_new_rds, says_set_rds};
+ghost use Rattle.answers.specs.Answer.{says_made, says_changed};
+ghost use Rattle.encoder_record_rds.specs.EncodeRds.{new_rds_of, set_rds_of, set_rds_pilot_of, rds_at};
 
-use encoder_record::encode::{NewEncode, SetEncode, StereoEncode, good_level};
+use answers::answer::Refusal;
+use encoder_record::encode::{StereoEncode, good_level};
 
 // The stereo part, and the level of RDS.
 #[repr(C)]
@@ -12,44 +14,33 @@ pub struct StereoEncodeRds {
     pub rds: f32,
 }
 
-// A new encoder, or the number of the refusal.
-#[derive(Clone, Copy)]
-pub enum NewEncodeRds {
-    Made(StereoEncodeRds),
-    Refused(u32),
-}
-
-// The changed encoder, or the number of the refusal and the encoder as it was.
-#[derive(Clone, Copy)]
-pub enum SetEncodeRds {
-    Done(StereoEncodeRds),
-    Refused(u32, StereoEncodeRds),
-}
-
 impl StereoEncodeRds {
     // The causes of the stereo part, then 16.
-    pub fn new(frequency: f64, main: f32, pilot: f32, rds: f32, rate: f64) -> NewEncodeRds
-        ensures { says_new_rds result ≡ new_rds_of frequency main pilot rds rate }
+    pub fn new(
+        frequency: f64,
+        main: f32,
+        pilot: f32,
+        rds: f32,
+        rate: f64,
+    ) -> Result<StereoEncodeRds, Refusal>
+        ensures { says_made result ≡ new_rds_of frequency main pilot rds rate }
     {
-        match StereoEncode::new(frequency, main, pilot, rate) {
-            NewEncode::Made(enc) => {
-                if !good_level(rds) {
-                    return NewEncodeRds::Refused(16);
-                }
-                NewEncodeRds::Made(StereoEncodeRds { enc, rds })
-            }
-            NewEncode::Refused(n) => NewEncodeRds::Refused(n),
+        let enc = StereoEncode::new(frequency, main, pilot, rate)?;
+        if !good_level(rds) {
+            return Err(Refusal::RdsLevel);
         }
+        Ok(StereoEncodeRds { enc, rds })
     }
 
-    pub fn set_rds(self, rds: f32) -> SetEncodeRds
-        ensures { says_set_rds result ≡ set_rds_of self rds }
+    pub fn set_rds(&mut self, rds: f32) -> Result<(), Refusal>
+        ensures { says_changed result self.new ≡ set_rds_of self.old rds }
     {
+        // tested first: a refused call leaves the encoder as it was
         if !good_level(rds) {
-            return SetEncodeRds::Refused(16, self);
+            return Err(Refusal::RdsLevel);
         }
-        let enc = self.enc;
-        SetEncodeRds::Done(StereoEncodeRds { enc, rds })
+        self.rds = rds;
+        Ok(())
     }
 
     pub fn rds(self) -> f32
@@ -58,14 +49,10 @@ impl StereoEncodeRds {
         self.rds
     }
 
-    pub fn set_pilot(self, pilot: f32) -> SetEncodeRds
-        ensures { says_set_rds result ≡ set_rds_pilot_of self pilot }
+    pub fn set_pilot(&mut self, pilot: f32) -> Result<(), Refusal>
+        ensures { says_changed result self.new ≡ set_rds_pilot_of self.old pilot }
     {
-        let old = self.enc;
-        match old.set_pilot(pilot) {
-            SetEncode::Done(enc) => SetEncodeRds::Done(StereoEncodeRds { enc, rds: self.rds }),
-            SetEncode::Refused(n, _) => SetEncodeRds::Refused(n, self),
-        }
+        self.enc.set_pilot(pilot)
     }
 
     pub fn pilot(self) -> f32

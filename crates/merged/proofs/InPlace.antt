@@ -25,25 +25,22 @@ module _ {A : Type 0} (l r : A → A → A) (z : A) (sum difference : List A) wh
 
   module _ {i : ℕ} {left right : List A} (w : Turning i left right) where
     -- what is read lies within both
-    pub also_right : i < length left → i < length right
-    also_right h = omega (arith, w.lefts.size, w.rights.size)
+    pub also_right : i < length sum → i < length right
+    also_right h = omega (arith, w.rights.size)
 
     -- one more sample: x and y are left and right of the i-th sum and difference, which still stand
-    pub turning_next : {x y : A} → i < length left → x ≡ l (get_or left i z) (get_or right i z) → y ≡ r (get_or left i z) (get_or right i z)
+    pub turning_next : {x y : A} → i < length sum → x ≡ l (get_or left i z) (get_or right i z) → y ≡ r (get_or left i z) (get_or right i z)
         → Turning (i + 1) (set left i x) (set right i y)
     turning_next {x} {y} h ex ey =
-        let n : i < length sum = omega (arith, w.lefts.size) in
         let s = w.sums.rest i (le_refl i) in
         let d = w.differences.rest i (le_refl i) in
         record {
-          below = omega (arith, n);
-          lefts = filled_next w.lefts n (ex ∙ rw (s, d));
-          rights = filled_next w.rights n (ey ∙ rw (s, d));
+          below = omega (arith, h);
+          lefts = filled_next w.lefts h (ex ∙ rw (s, d));
+          rights = filled_next w.rights h (ey ∙ rw (s, d));
           sums = untouched_next w.sums x;
           differences = untouched_next w.differences y;
         }
 
-    pub turning_end : length left ≤ i → record { said = accepted; left = left; right = right } ≡ filled_by l r z sum difference
-    turning_end h =
-        let n : length sum ≤ i = omega (arith, w.lefts.size) in
-        rw (filled_end w.lefts w.below n, filled_end w.rights w.below n)
+    pub turning_end : length sum ≤ i → record { said = accepted; left = left; right = right } ≡ filled_by l r z sum difference
+    turning_end h = rw (filled_end w.lefts w.below h, filled_end w.rights w.below h)

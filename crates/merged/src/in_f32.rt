@@ -8,8 +8,6 @@ ghost use Rattle.decoder_record.specs.Records.{pll_of_f32};
 ghost use Rattle.decoder_fast.specs.Wide.{count_f32};
 ghost use Rattle.merged.specs.Merged.{merged_of};
 
-use answers::answer::is_accepted;
-use counted::answer_of;
 use decoder_fast::FastReply;
 use decoder_record::pll_f32::StereoPllF32;
 
@@ -19,14 +17,12 @@ fn matrix_in_place(left: &mut [f32], right: &mut [f32])
     ensures { record { said = accepted; left = left.new; right = right.new }
         ≡ filled_f32 left.old right.old }
 {
-    let mut i = 0usize;
-    while i < left.len() {
+    for i in 0..left.len() {
         let s = left[i];
         let d = right[i];
         let d2 = d + d;
         left[i] = s + d2;
         right[i] = s - d2;
-        i += 1;
     }
 }
 
@@ -39,7 +35,7 @@ pub fn block(
     left: &mut [f32],
     right: &mut [f32],
 ) -> FastReply
-    ensures fact_1 { record {
+    ensures leaves { record {
       said = said_in result.answer;
       left = left.new;
       right = right.new;
@@ -47,12 +43,12 @@ pub fn block(
     }
         ≡ merged_of f32 filled_f32 (pll_of_f32 d) table.now mpx.now pilot.now
         left.old right.old }
-    ensures fact_2 { count_in result.answer ≡ count_f32 (pll_of_f32 d) table.now mpx.now pilot.now
+    ensures count { count_in result.answer ≡ count_f32 (pll_of_f32 d) table.now mpx.now pilot.now
         left.old right.old }
 {
     let reply = decoder_fast::block(d, table, mpx, pilot, left, right);
     let answer = reply.answer;
-    if !is_accepted(answer_of(answer)) {
+    if answer.is_err() {
         return reply;
     }
     matrix_in_place(left, right);

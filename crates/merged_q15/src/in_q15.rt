@@ -6,7 +6,6 @@ ghost use Rattle.decoder_q15.specs.Q15.{q15};
 ghost use Rattle.decoder_record_q15.specs.Records.{pll_of_q15};
 ghost use Rattle.merged.specs.Merged.{merged_of};
 
-use answers::answer::is_accepted;
 use decoder_q15::parts::ReplyQ15;
 use decoder_record_q15::pll_q15::StereoPllQ15;
 use matrix::matrix::{left_q15, right_q15};
@@ -17,13 +16,11 @@ fn matrix_in_place(left: &mut [i16], right: &mut [i16])
     ensures { record { said = accepted; left = left.new; right = right.new }
         ≡ filled_q15 left.old right.old }
 {
-    let mut i = 0usize;
-    while i < left.len() {
+    for i in 0..left.len() {
         let s = left[i];
         let d = right[i];
         left[i] = left_q15(s, d);
         right[i] = right_q15(s, d);
-        i += 1;
     }
 }
 
@@ -47,7 +44,7 @@ pub fn block(
 {
     let reply = decoder_q15::fast::block(d, table, mpx, pilot, left, right);
     let answer = reply.answer;
-    if !is_accepted(answer) {
+    if answer.is_err() {
         return reply;
     }
     matrix_in_place(left, right);

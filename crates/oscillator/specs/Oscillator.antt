@@ -4,16 +4,10 @@ use Rattle.std.specs.Prelude.{ℕ, ◌+◌, ◌*◌, ◌%◌, ◌^◌, false, []
 use Rattle.std.specs.Float.{fin, binary64}
 use Rattle.std.specs.Float.Ieee.{div, sub, mul, to_signed}
 use Rattle.std.specs.Float.Ieee.Scale.{finite}
-use Rattle.answers.specs.Answer.{Said, rule, first_cause, Built, made, refused, built_by, Changed, changed, unchanged, changed_by}
+use Rattle.answers.specs.Answer.{Said, rule, first_cause, Built, built_by, Changed, changed_by}
 use Rattle.numbers.specs.Integers.{mod_z}
 use Rattle.floats.specs.Floats.{floor_of, half_even_of, positive}
 use Rattle.oscillator.specs.declared.nco.Nco.{Nco}
-use Rattle.oscillator.specs.declared.nco.Increment.{Increment}
-use Rattle.oscillator.specs.declared.nco.Increment.TheVariants as increment
-use Rattle.oscillator.specs.declared.nco.NewNco.{NewNco}
-use Rattle.oscillator.specs.declared.nco.NewNco.TheVariants as new
-use Rattle.oscillator.specs.declared.nco.SetNco.{SetNco}
-use Rattle.oscillator.specs.declared.nco.SetNco.TheVariants as set
 
 -- the increment of a number of cycles a sample: their fraction, cycles - floor(cycles), times 2^32, half-even,
 -- where 2^32 becomes 0
@@ -50,16 +44,3 @@ phase_set o p = record { phase = p; inc = o.inc }
 -- n increments on
 abbrev pub advance_of : Nco → ℕ → Nco
 advance_of o n = phase_set o ((o.phase + n * o.inc) % 2 ^ 32)
-
--- ---- the program's answers in document 01's terms
-abbrev pub says_increment : Increment → Built ℕ
-says_increment (increment.Made inc) = made inc
-says_increment (increment.Refused n) = refused n
-
-abbrev pub says_new : NewNco → Built Nco
-says_new (new.Made o) = made o
-says_new (new.Refused n) = refused n
-
-abbrev pub says_set : SetNco → Changed Nco
-says_set (set.Done o) = changed o
-says_set (set.Refused n o) = unchanged n o

@@ -1,5 +1,6 @@
 // The numerically controlled oscillator of kernels/mix.rs.
 ghost use Rattle.std.specs.Prelude.{◌≡◌};
+ghost use Rattle.answers.specs.Answer.{says_made, says_changed};
 ghost use Rattle.oscillator.specs.Oscillator.{
   increment_of,
   increment_for,
@@ -8,10 +9,9 @@ ghost use Rattle.oscillator.specs.Oscillator.{
   set_frequency_of,
   phase_set,
   advance_of,
-  says_increment,
-  says_new,
-  says_set,
 };
+
+use answers::answer::Refusal;
 
 // The phase before the next sample, and what each sample adds to it.
 #[repr(C)]
@@ -19,27 +19,6 @@ ghost use Rattle.oscillator.specs.Oscillator.{
 pub struct Nco {
     pub phase: u32,
     pub inc: u32,
-}
-
-// An increment, or the number of the refusal.
-#[derive(Clone, Copy)]
-pub enum Increment {
-    Made(u32),
-    Refused(u32),
-}
-
-// A new oscillator, or the number of the refusal.
-#[derive(Clone, Copy)]
-pub enum NewNco {
-    Made(Nco),
-    Refused(u32),
-}
-
-// The changed oscillator, or the number of the refusal and the oscillator as it was.
-#[derive(Clone, Copy)]
-pub enum SetNco {
-    Done(Nco),
-    Refused(u32, Nco),
 }
 
 // The increment of a finite number of cycles a sample.
@@ -52,27 +31,25 @@ pub fn increment_of(cycles: f64) -> u32
 }
 
 // The increment of a frequency at a rate.
-pub fn increment_for(freq: f64, rate: f64) -> Increment
-    ensures { says_increment result ≡ increment_for freq rate }
+pub fn increment_for(freq: f64, rate: f64) -> Result<u32, Refusal>
+    ensures { says_made result ≡ increment_for freq rate }
 {
     if !finite::finite::is_positive_f64(rate) {
-        return Increment::Refused(1);
+        return Err(Refusal::Rate);
     }
     let cycles = freq / rate;
     if !finite::finite::is_finite_f64(cycles) {
-        return Increment::Refused(17);
+        return Err(Refusal::Cycles);
     }
-    Increment::Made(increment_of(cycles))
+    Ok(increment_of(cycles))
 }
 
 impl Nco {
-    pub fn new(freq: f64, rate: f64) -> NewNco
-        ensures { says_new result ≡ new_of freq rate }
+    pub fn new(freq: f64, rate: f64) -> Result<Nco, Refusal>
+        ensures { says_made result ≡ new_of freq rate }
     {
-        match increment_for(freq, rate) {
-            Increment::Made(inc) => NewNco::Made(Nco { phase: 0, inc }),
-            Increment::Refused(n) => NewNco::Refused(n),
-        }
+        let inc = increment_for(freq, rate)?;
+        Ok(Nco { phase: 0, inc })
     }
 
     pub fn from_increment(inc: u32) -> Nco
@@ -81,16 +58,12 @@ impl Nco {
         Nco { phase: 0, inc }
     }
 
-    pub fn set_frequency(self, freq: f64, rate: f64) -> SetNco
-        ensures { says_set result ≡ set_frequency_of self freq rate }
+    // A refused call leaves the oscillator as it was.
+    pub fn set_frequency(&mut self, freq: f64, rate: f64) -> Result<(), Refusal>
+        ensures { says_changed result self.new ≡ set_frequency_of self.old freq rate }
     {
-        match increment_for(freq, rate) {
-            Increment::Made(inc) => SetNco::Done(Nco {
-                phase: self.phase,
-                inc,
-            }),
-            Increment::Refused(n) => SetNco::Refused(n, self),
-        }
+        self.inc = increment_for(freq, rate)?;
+        Ok(())
     }
 
     pub fn phase(self) -> u32

@@ -15,7 +15,7 @@ use Rattle.numbers.specs.Integers.{mod_z}
 use Rattle.floats.specs.Floats.{floor_of}
 use Rattle.scale.specs.Scaled.{scaled_of}
 use Rattle.floats.proofs.Floats.{whole_at}
-use Rattle.phase.specs.declared.correction.Quick.TheVariants.{Step, Wide}
+use Rattle.std.proofs.Common.{Some, None}
 use Rattle.phase.specs.declared.correction.Corrected.{Corrected}
 use Rattle.phase.specs.Correction.{correction_of, v_of, quick_serves, quick_of, corrected_of}
 
@@ -168,24 +168,24 @@ module _ {v : Float} (k : Ranged v) where
 
 -- ---- what the quick way gives
 -- by the outcome of its test, of f as an f64
-pub quick_by : {f g : Float} {b : Bool} → g ≡ f → quick_serves (v_of g) ≡ b → cond b (Step (mod_z (to_signed 63 (floor_of (v_of g))) (2 ^ 32))) Wide ≡ quick_of f
+pub quick_by : {f g : Float} {b : Bool} → g ≡ f → quick_serves (v_of g) ≡ b → cond b (Some (mod_z (to_signed 63 (floor_of (v_of g))) (2 ^ 32))) None ≡ quick_of f
 unfolding quick_of correction_of scaled_of
 quick_by e p = rw (← e, p)
 
 -- the fast way, by what the quick one gives: its step and that it served, or else the correction n and that it
 -- did not
-pub step_is : (f : Float) (n : ℕ) → quick_of f ≡ Step n → ◌≡◌ {A = Corrected} (record { step = n; quick = true }) (corrected_of f)
+pub step_is : (f : Float) (n : ℕ) → quick_of f ≡ Some n → ◌≡◌ {A = Corrected} (record { step = n; quick = true }) (corrected_of f)
 unfolding quick_of
 step_is f n e = go (quick_serves (v_of f)) e
   where
-    go : (t : Bool) → cond t (Step (correction_of f)) Wide ≡ Step n → ◌≡◌ {A = Corrected} (record { step = n; quick = true }) (record { step = correction_of f; quick = t })
+    go : (t : Bool) → cond t (Some (correction_of f)) None ≡ Some n → ◌≡◌ {A = Corrected} (record { step = n; quick = true }) (record { step = correction_of f; quick = t })
     go true e = let z : n ≡ correction_of f = cc in rw z
     go false e = let z : ◌≡◌ {A = ℕ} 0 1 = cc in absurd (omega arith)
 
-pub wide_is : (f : Float) (n : ℕ) → quick_of f ≡ Wide → n ≡ correction_of f → ◌≡◌ {A = Corrected} (record { step = n; quick = false }) (corrected_of f)
+pub wide_is : (f : Float) (n : ℕ) → quick_of f ≡ None → n ≡ correction_of f → ◌≡◌ {A = Corrected} (record { step = n; quick = false }) (corrected_of f)
 unfolding quick_of
 wide_is f n e k = go (quick_serves (v_of f)) e
   where
-    go : (t : Bool) → cond t (Step (correction_of f)) Wide ≡ Wide → ◌≡◌ {A = Corrected} (record { step = n; quick = false }) (record { step = correction_of f; quick = t })
+    go : (t : Bool) → cond t (Some (correction_of f)) None ≡ None → ◌≡◌ {A = Corrected} (record { step = n; quick = false }) (record { step = correction_of f; quick = t })
     go true e = let z : ◌≡◌ {A = ℕ} 0 1 = cc in absurd (omega arith)
     go false e = rw k

@@ -1,13 +1,11 @@
 -- The phase correction. Source: document 01, "Phase correction", and document 02, request 7, for which way serves;
 -- fallback/modulate.rs for the quick way's range. Definitions only.
-use Rattle.std.specs.Prelude.{ℕ, ◌^◌, Bool, false, cond, not, pos, negsuc, Float}
+use Rattle.std.specs.Prelude.{ℕ, ◌^◌, Bool, false, cond, not, pos, negsuc, Float, Option, Some, None}
 use Rattle.std.specs.Float.{fin, binary64}
 use Rattle.std.specs.Float.Ieee.{add, mul, lt}
 use Rattle.floats.specs.Floats.{abs_of}
 use Rattle.numbers.specs.Integers.{mod_z}
 use Rattle.scale.specs.Scaled.{scaled_of}
-use Rattle.phase.specs.declared.correction.Quick.{Quick}
-use Rattle.phase.specs.declared.correction.Quick.TheVariants.{Step, Wide}
 use Rattle.phase.specs.declared.correction.Corrected.{Corrected}
 
 -- v = f times 2^32 plus 0.5, rounded; its floor as an i64 that stops at its ends, a NaN giving 0; modulo 2^32
@@ -27,8 +25,8 @@ abbrev pub is_wide : Float → Bool
 is_wide f = not (quick_serves (v_of f))
 
 -- what the quick way gives: the correction where it serves
-unfoldable pub quick_of : Float → Quick
-quick_of f = cond (quick_serves (v_of f)) (Step (correction_of f)) Wide
+unfoldable pub quick_of : Float → Option ℕ
+quick_of f = cond (quick_serves (v_of f)) (Some (correction_of f)) None
 
 -- the fast way: the correction, and whether the quick way served
 abbrev pub corrected_of : Float → Corrected

@@ -6,13 +6,6 @@ ghost use Rattle.phase.specs.Correction.{correction_of, quick_serves, quick_of, 
 // low digits.
 const MAGIC: f64 = 6755399441055744.0;
 
-// What the quick way gives: the correction, or that it does not serve.
-#[derive(Clone, Copy)]
-pub enum Quick {
-    Step(u32),
-    Wide,
-}
-
 // What the fast way gives: the correction, and whether the quick way served.
 #[repr(C)]
 #[derive(Clone, Copy)]
@@ -39,8 +32,8 @@ pub fn quick_serves(v: f64) -> bool
     false
 }
 
-// The quick way, with its own yes or no.
-pub fn correction_quick(f: f32) -> Quick
+// The quick way: the correction, where it serves.
+pub fn correction_quick(f: f32) -> Option<u32>
     ensures { result ≡ quick_of f }
 {
     let v = finite::finite::f32_to_f64(f) * 4294967296.0 + 0.5;
@@ -48,9 +41,9 @@ pub fn correction_quick(f: f32) -> Quick
         let m = v + MAGIC;
         let low = (f64::to_bits(m) % 4294967296) as u32;
         let up = (m - MAGIC > v) as u32;
-        return Quick::Step(std::num::wrapping_sub_u32(low, up));
+        return Some(std::num::wrapping_sub_u32(low, up));
     }
-    Quick::Wide
+    None
 }
 
 // The fast way: the quick one where it serves, else the plain one; and which of them it was.
@@ -58,8 +51,8 @@ pub fn correction_fast(f: f32) -> Corrected
     ensures { result ≡ corrected_of f }
 {
     match correction_quick(f) {
-        Quick::Step(step) => Corrected { step, quick: true },
-        Quick::Wide => Corrected {
+        Some(step) => Corrected { step, quick: true },
+        None => Corrected {
             step: correction_plain(f),
             quick: false,
         },

@@ -1,11 +1,10 @@
 -- The loops of the scan: a place from which on every sample is finite, and what the scan tells where they end.
 -- Assumes nothing.
-use Prim.Native.Nat.{ℕ, zero, suc, ◌+◌, ◌-◌, ◌≤◌, ◌<◌}
+use Prim.Native.Nat.{ℕ, zero, suc, ◌-◌, ◌≤◌, ◌<◌}
 use mathlib.Core.Path.{◌≡◌, refl, sym, ◌∙◌, ap, subst}
 use mathlib.Core.List.{List, [], ◌∷◌, ◌++◌}
 use mathlib.Core.Bool.{Bool, true, false, and-false}
 use native.Mathlib.Nat.{le_refl, le_trans, add-sub_of_le, not-suc-le-zero}
-use native.Mathlib.Numerals.{add-one}
 use native.Mathlib.Omega.{arith}
 use lib.ListN.{length, take, drop, get_or, take-append-drop, length-drop}
 use lib.Seq.{drop-cons, drop-length, drop-drop, split_at}
@@ -52,7 +51,7 @@ unfolding scan_of
 scan_is pilot b count e r = rw (e, r) refl
 
 -- at a sample that is not finite, where every later one is
-pub leaves : (pilot : List Float) (i : ℕ) → 0 < i → FiniteFrom pilot i → finite (get_or pilot (i - 1) nan) ≡ false → record { finite = false; read = length pilot - i + 1 } ≡ scan_of pilot
+pub leaves : (pilot : List Float) (i : ℕ) → 0 < i → FiniteFrom pilot i → finite (get_or pilot (i - 1) nan) ≡ false → record { finite = false; read = length pilot - (i - 1) } ≡ scan_of pilot
 leaves pilot i l f h =
     let k = i - 1 in
     let p = get_or pilot k nan in
@@ -60,7 +59,8 @@ leaves pilot i l f h =
     let place = split_at pilot k nan g.0 in
     let found : Last pilot = record { before = take k pilot; sample = p; after = drop (suc k) pilot; place = place; not_finite = h; rest_finite = g.1 } in
     let left = length-drop (suc k) pilot ∙ ap (λ (n : ℕ). length pilot - n) (after i l) in
-    scan_is pilot false (length pilot - i + 1) (ap all_finite place ∙ not_all (take k pilot) p (drop (suc k) pilot) h) (from_last pilot found ∙ ap suc left ∙ sym (add-one (length pilot - i)))
+    let one_more : suc (length pilot - i) ≡ length pilot - k = omega (arith, f.0) in
+    scan_is pilot false (length pilot - k) (ap all_finite place ∙ not_all (take k pilot) p (drop (suc k) pilot) h) (from_last pilot found ∙ ap suc left ∙ one_more)
 
 -- with no sample left
 pub ends : (pilot : List Float) (i : ℕ) → i ≤ 0 → FiniteFrom pilot i → record { finite = true; read = length pilot } ≡ scan_of pilot

@@ -33,11 +33,9 @@ fn all_finite(samples: &[f32]) -> bool
     ensures { result ≡ all_finite samples.now }
 {
     let mut ok = true;
-    let mut i = 0usize;
-    while i < samples.len() {
-        let f = is_finite_pattern(samples[i]);
+    for x in samples {
+        let f = is_finite_pattern(*x);
         ok = ok & f;
-        i += 1;
     }
     ok
 }
@@ -47,6 +45,7 @@ fn finite_from(pilot: &[f32]) -> usize
     ensures { (result ≤ length pilot.now) × (all_finite (drop result pilot.now) ≡ true) }
 {
     let mut end = pilot.len();
+    // counted down by hand: by whole chunks from the end, and what is left in front is tested below
     while end >= CHUNK {
         if !all_finite(&pilot[end - CHUNK..end]) {
             return end;
@@ -68,18 +67,17 @@ pub fn scan(pilot: &[f32]) -> Scanned
         finite: true,
         read: pilot.len(),
     };
-    let mut i = finite_from(pilot);
-    if i == 0 {
+    let end = finite_from(pilot);
+    if end == 0 {
         return all;
     }
-    while i > 0 {
-        if !is_finite_pattern(pilot[i - 1]) {
+    for i in (0..end).rev() {
+        if !is_finite_pattern(pilot[i]) {
             return Scanned {
                 finite: false,
-                read: pilot.len() - i + 1,
+                read: pilot.len() - i,
             };
         }
-        i -= 1;
     }
     all
 }

@@ -11,7 +11,7 @@ ghost use Rattle.rack_round.specs.Flat.{queues_of, worked_of, flat_of};
 ghost use Rattle.rack_round.specs.Wide.{turn_wide, round_wide};
 ghost use Rattle.rack_waiting.specs.Beside.{beside, over};
 
-use answers::answer::{Answer, is_accepted};
+use answers::answer::Refusal;
 use counted::wide_of;
 use decoder_record::pll_f32::StereoPllF32;
 use rack_waiting::{Waiting, least, parts, round_answer, taken};
@@ -20,7 +20,7 @@ use rack_waiting::{Waiting, least, parts, round_answer, taken};
 // way, and the decoders after it.
 #[derive(Clone, Copy)]
 pub struct RoundF32 {
-    pub answer: Answer,
+    pub answer: Result<(), Refusal>,
     pub taken: [usize; 8],
     pub wide: [usize; 8],
     pub decoders: [StereoPllF32; 8],
@@ -45,14 +45,14 @@ fn work(
     sum: &mut [f32],
     difference: &mut [f32],
 ) -> WorkF32
-    requires fact_1 { number ≤ 8 }
-    requires fact_2 { Agreed number parts (waiting_of (record {
+    requires number { number ≤ 8 }
+    requires agreed { Agreed number parts (waiting_of (record {
       mpx = mpx.now;
       pilot = pilot.now;
       sum = sum.old;
       difference = difference.old;
     })) }
-    ensures fact_1 { record {
+    ensures leaves { record {
       sum = sum.new;
       difference = difference.new;
       decoders = map pll_of_f32 result.decoders;
@@ -63,7 +63,7 @@ fn work(
           sum = sum.old;
           difference = difference.old;
         }) }
-    ensures fact_2 { result.wide ≡ over (beside (turn_wide table.now share) number (map pll_of_f32 decoders)
+    ensures wide { result.wide ≡ over (beside (turn_wide table.now share) number (map pll_of_f32 decoders)
         (queues_of parts (record {
           mpx = mpx.now;
           pilot = pilot.now;
@@ -73,9 +73,8 @@ fn work(
 {
     let mut next = decoders;
     let mut wide = [0usize; 8];
-    let mut k = 0usize;
     let mut a = 0usize;
-    while k < number {
+    for k in 0..number {
         let w = parts[k];
         let e = a + least(share, w.mpx);
         let d = next[k];
@@ -92,7 +91,6 @@ fn work(
         let answer = reply.answer;
         wide[k] = wide_of(answer);
         a += w.mpx;
-        k += 1;
     }
     WorkF32 {
         decoders: next,
@@ -113,7 +111,7 @@ pub fn round(
     sum: &mut [f32],
     difference: &mut [f32],
 ) -> RoundF32
-    ensures fact_1 { record {
+    ensures leaves { record {
       said = says result.answer;
       taken = result.taken;
       sum = sum.new;
@@ -126,7 +124,7 @@ pub fn round(
           sum = sum.old;
           difference = difference.old;
         }) }
-    ensures fact_2 { result.wide ≡ round_wide number allowance table.now (map pll_of_f32 decoders)
+    ensures wide { result.wide ≡ round_wide number allowance table.now (map pll_of_f32 decoders)
         (queues_of waiting (record {
           mpx = mpx.now;
           pilot = pilot.now;
@@ -144,7 +142,7 @@ pub fn round(
         },
     );
     let answer = round_answer(number, allowance, table.len(), [true; 8], cut);
-    if !is_accepted(answer) {
+    if answer.is_err() {
         return RoundF32 {
             answer,
             taken: [0; 8],

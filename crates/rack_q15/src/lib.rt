@@ -10,7 +10,7 @@ ghost use Rattle.rack_waiting.specs.Agreed.{Agreed};
 ghost use Rattle.rack_round.specs.Round.{waiting_of};
 ghost use Rattle.rack_round.specs.Flat.{worked_of, flat_of};
 
-use answers::answer::{Answer, is_accepted};
+use answers::answer::Refusal;
 use decoder_fit_q15::fit::is_fit;
 use decoder_record_q15::pll_q15::StereoPllQ15;
 use rack_waiting::{Waiting, least, parts, round_answer, taken};
@@ -18,7 +18,7 @@ use rack_waiting::{Waiting, least, parts, round_answer, taken};
 // What a round answers, how many samples each decoder took, and the decoders after it.
 #[derive(Clone, Copy)]
 pub struct RoundQ15 {
-    pub answer: Answer,
+    pub answer: Result<(), Refusal>,
     pub taken: [usize; 8],
     pub decoders: [StereoPllQ15; 8],
 }
@@ -28,11 +28,9 @@ pub fn fit_records(decoders: [StereoPllQ15; 8]) -> [bool; 8]
     ensures { result ≡ map fit_q15 (map pll_of_q15 decoders) }
 {
     let mut fit = [false; 8];
-    let mut k = 0usize;
-    while k < 8 {
+    for k in 0..8 {
         let d = decoders[k];
         fit[k] = is_fit(d);
-        k += 1;
     }
     fit
 }
@@ -49,8 +47,8 @@ fn work(
     sum: &mut [i16],
     difference: &mut [i16],
 ) -> [StereoPllQ15; 8]
-    requires fact_1 { number ≤ 8 }
-    requires fact_2 { Agreed number parts (waiting_of (record {
+    requires number { number ≤ 8 }
+    requires agreed { Agreed number parts (waiting_of (record {
       mpx = mpx.now;
       pilot = pilot.now;
       sum = sum.old;
@@ -69,9 +67,8 @@ fn work(
         }) }
 {
     let mut next = decoders;
-    let mut k = 0usize;
     let mut a = 0usize;
-    while k < number {
+    for k in 0..number {
         let w = parts[k];
         let e = a + least(share, w.mpx);
         let d = next[k];
@@ -86,7 +83,6 @@ fn work(
         let after = reply.decoder;
         next[k] = after;
         a += w.mpx;
-        k += 1;
     }
     next
 }
@@ -128,7 +124,7 @@ pub fn round(
         },
     );
     let answer = round_answer(number, allowance, table.len(), fit_records(decoders), cut);
-    if !is_accepted(answer) {
+    if answer.is_err() {
         return RoundQ15 {
             answer,
             taken: [0; 8],

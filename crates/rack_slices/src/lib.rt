@@ -12,7 +12,6 @@ ghost use Rattle.rack_round.specs.Round.{waiting_of, turn_of};
 ghost use Rattle.rack_round.specs.Wide.{turn_wide, round_wide};
 ghost use Rattle.rack_slices_round.specs.Slices.{addresses_of, queues_at, worked_of, slices_of};
 
-use answers::answer::is_accepted;
 use counted::wide_of;
 use decoder_record::pll_f32::StereoPllF32;
 use rack::RoundF32;
@@ -41,8 +40,7 @@ fn lengths(
         difference: 0,
     };
     let mut waiting = [none; 8];
-    let mut k = 0usize;
-    while k < 8 {
+    for k in 0..8 {
         let x = if k < mpx.len() { mpx[k].len() } else { 0 };
         let p = if k < pilot.len() { pilot[k].len() } else { 0 };
         let y = if k < sum.len() { sum[k].len() } else { 0 };
@@ -58,7 +56,6 @@ fn lengths(
             difference: z,
         };
         waiting[k] = w;
-        k += 1;
     }
     waiting
 }
@@ -90,7 +87,7 @@ fn turn(
     requires { (length pilot.now ≡ length mpx.now)
         × (length sum.old ≡ length mpx.now)
         × (length difference.old ≡ length mpx.now) }
-    ensures fact_1 { record {
+    ensures leaves { record {
       taken = min share (length mpx.now);
       sum = sum.new;
       difference = difference.new;
@@ -102,7 +99,7 @@ fn turn(
           sum = sum.old;
           difference = difference.old;
         }) }
-    ensures fact_2 { result.wide ≡ turn_wide table.now share (pll_of_f32 d) (record {
+    ensures wide { result.wide ≡ turn_wide table.now share (pll_of_f32 d) (record {
       mpx = mpx.now;
       pilot = pilot.now;
       sum = sum.old;
@@ -138,15 +135,15 @@ fn work(
     sum: &mut [&mut [f32]],
     difference: &mut [&mut [f32]],
 ) -> WorkF32
-    requires fact_1 { number ≤ 8 }
-    requires fact_2 { Even number waiting }
-    requires fact_3 { waiting ≡ map waiting_of (queues_at (record {
+    requires number { number ≤ 8 }
+    requires even { Even number waiting }
+    requires waiting { waiting ≡ map waiting_of (queues_at (record {
       mpx = map (λ x. x.now) mpx.now;
       pilot = map (λ x. x.now) pilot.now;
       sum = map (λ x. x.now) sum.old;
       difference = map (λ x. x.now) difference.old;
     })) }
-    ensures fact_1 { (record {
+    ensures leaves { (record {
       sum = map (λ x. x.now) sum.new;
       difference = map (λ x. x.now) difference.new;
       decoders = map pll_of_f32 result.decoders;
@@ -159,7 +156,7 @@ fn work(
         }))
         × (addresses_of sum.new ≡ addresses_of sum.old)
         × (addresses_of difference.new ≡ addresses_of difference.old) }
-    ensures fact_2 { result.wide ≡ over (beside (turn_wide table.now share) number (map pll_of_f32 decoders)
+    ensures wide { result.wide ≡ over (beside (turn_wide table.now share) number (map pll_of_f32 decoders)
         (queues_at (record {
           mpx = map (λ x. x.now) mpx.now;
           pilot = map (λ x. x.now) pilot.now;
@@ -169,8 +166,7 @@ fn work(
 {
     let mut next = decoders;
     let mut wide = [0usize; 8];
-    let mut k = 0usize;
-    while k < number {
+    for k in 0..number {
         let w = waiting[k];
         if w.mpx > 0 {
             let d = next[k];
@@ -181,7 +177,6 @@ fn work(
             next[k] = after;
             wide[k] = turned.wide;
         }
-        k += 1;
     }
     WorkF32 {
         decoders: next,
@@ -201,7 +196,7 @@ pub fn round(
     sum: &mut [&mut [f32]],
     difference: &mut [&mut [f32]],
 ) -> RoundF32
-    ensures fact_1 { (record {
+    ensures leaves { (record {
       said = says result.answer;
       taken = result.taken;
       sum = map (λ x. x.now) sum.new;
@@ -216,7 +211,7 @@ pub fn round(
         }))
         × (addresses_of sum.new ≡ addresses_of sum.old)
         × (addresses_of difference.new ≡ addresses_of difference.old) }
-    ensures fact_2 { result.wide ≡ round_wide number allowance table.now (map pll_of_f32 decoders)
+    ensures wide { result.wide ≡ round_wide number allowance table.now (map pll_of_f32 decoders)
         (queues_at (record {
           mpx = map (λ x. x.now) mpx.now;
           pilot = map (λ x. x.now) pilot.now;
@@ -226,7 +221,7 @@ pub fn round(
 {
     let waiting = lengths(mpx, pilot, sum, difference);
     let answer = round_answer(number, allowance, table.len(), [true; 8], waiting);
-    if !is_accepted(answer) {
+    if answer.is_err() {
         return RoundF32 {
             answer,
             taken: [0; 8],

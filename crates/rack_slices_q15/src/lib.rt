@@ -10,7 +10,6 @@ ghost use Rattle.rack_waiting.specs.Agreed.{Even};
 ghost use Rattle.rack_round.specs.Round.{waiting_of, turn_of};
 ghost use Rattle.rack_slices_round.specs.Slices.{addresses_of, queues_at, worked_of, slices_of};
 
-use answers::answer::is_accepted;
 use decoder_record_q15::pll_q15::StereoPllQ15;
 use rack_q15::{RoundQ15, fit_records};
 use rack_waiting::{Waiting, least, round_answer, taken};
@@ -38,8 +37,7 @@ fn lengths(
         difference: 0,
     };
     let mut waiting = [none; 8];
-    let mut k = 0usize;
-    while k < 8 {
+    for k in 0..8 {
         let x = if k < mpx.len() { mpx[k].len() } else { 0 };
         let p = if k < pilot.len() { pilot[k].len() } else { 0 };
         let y = if k < sum.len() { sum[k].len() } else { 0 };
@@ -55,7 +53,6 @@ fn lengths(
             difference: z,
         };
         waiting[k] = w;
-        k += 1;
     }
     waiting
 }
@@ -110,9 +107,9 @@ fn work(
     sum: &mut [&mut [i16]],
     difference: &mut [&mut [i16]],
 ) -> [StereoPllQ15; 8]
-    requires fact_1 { number ≤ 8 }
-    requires fact_2 { Even number waiting }
-    requires fact_3 { waiting ≡ map waiting_of (queues_at (record {
+    requires number { number ≤ 8 }
+    requires even { Even number waiting }
+    requires waiting { waiting ≡ map waiting_of (queues_at (record {
       mpx = map (λ x. x.now) mpx.now;
       pilot = map (λ x. x.now) pilot.now;
       sum = map (λ x. x.now) sum.old;
@@ -133,8 +130,7 @@ fn work(
         × (addresses_of difference.new ≡ addresses_of difference.old) }
 {
     let mut next = decoders;
-    let mut k = 0usize;
-    while k < number {
+    for k in 0..number {
         let w = waiting[k];
         if w.mpx > 0 {
             let d = next[k];
@@ -143,7 +139,6 @@ fn work(
             let after = turn(d, share, table, x, p, sum[k], difference[k]);
             next[k] = after;
         }
-        k += 1;
     }
     next
 }
@@ -184,7 +179,7 @@ pub fn round(
         fit_records(decoders),
         waiting,
     );
-    if !is_accepted(answer) {
+    if answer.is_err() {
         return RoundQ15 {
             answer,
             taken: [0; 8],

@@ -7,7 +7,7 @@ ghost use Rattle.answers.specs.Answer.{says, first_cause};
 ghost use Rattle.rack_waiting.specs.Beside.{beside};
 ghost use Rattle.rack_waiting.specs.Waiting.{part_of, rest_of, parts_of, cause_of, round_says, taken_of};
 
-use answers::answer::{Answer, is_accepted};
+use answers::answer::Refusal;
 use decoder_q15::parts::block_answer;
 
 // The most decoders of a rack.
@@ -67,31 +67,29 @@ pub fn parts(waiting: [Waiting; 8], whole: Waiting) -> [Waiting; 8]
 {
     let mut cut = waiting;
     let mut left = whole;
-    let mut k = 0usize;
-    while k < 8 {
+    for k in 0..8 {
         let w = waiting[k];
         cut[k] = part(w, left);
         left = rest(w, left);
-        k += 1;
     }
     cut
 }
 
 // The earliest decoder's refusal.
-fn earliest(number: usize, table: usize, fits: [bool; 8], waiting: [Waiting; 8]) -> Answer
+fn earliest(
+    number: usize,
+    table: usize,
+    fits: [bool; 8],
+    waiting: [Waiting; 8],
+) -> Result<(), Refusal>
     requires { number ≤ 8 }
     ensures { says result ≡ first_cause (beside (cause_of table) number fits waiting) }
 {
-    let mut k = 0usize;
-    while k < number {
+    for k in 0..number {
         let w = waiting[k];
-        let answer = block_answer(fits[k], table, w.mpx, w.pilot, w.sum, w.difference);
-        if !is_accepted(answer) {
-            return answer;
-        }
-        k += 1;
+        block_answer(fits[k], table, w.mpx, w.pilot, w.sum, w.difference)?;
     }
-    Answer::Accepted
+    Ok(())
 }
 
 // A round's answer: 21, then 22, then the earliest decoder's refusal, by the lengths of what waits.
@@ -101,17 +99,17 @@ pub fn round_answer(
     table: usize,
     fits: [bool; 8],
     waiting: [Waiting; 8],
-) -> Answer
+) -> Result<(), Refusal>
     ensures { says result ≡ round_says number allowance table fits waiting }
 {
     if number < 2 {
-        return Answer::Number;
+        return Err(Refusal::Number);
     }
     if number > PLACES {
-        return Answer::Number;
+        return Err(Refusal::Number);
     }
     if (allowance as usize) < number {
-        return Answer::Allowance;
+        return Err(Refusal::Allowance);
     }
     earliest(number, table, fits, waiting)
 }
@@ -122,11 +120,9 @@ pub fn taken(number: usize, share: usize, waiting: [Waiting; 8]) -> [usize; 8]
 {
     let mut counts = [0usize; 8];
     let n = least(number, PLACES);
-    let mut k = 0usize;
-    while k < n {
+    for k in 0..n {
         let w = waiting[k];
         counts[k] = least(share, w.mpx);
-        k += 1;
     }
     counts
 }

@@ -3,10 +3,8 @@
 use mathlib.Core.Path.{◌≡◌, refl}
 use Rattle.rds.proofs.former.RdsFormer.new.Reads as new
 use Rattle.rds.proofs.former.group.Reads as group
-use Rattle.rds.proofs.former.group_code.Reads as group-code
 
 pub nothing_asked :
     (new.Asked ≡ λ κs a. Unit {0})
     × (group.Asked ≡ λ κs a. Unit {0})
-    × (group-code.Asked ≡ λ κs a. Unit {0})
-nothing_asked = (refl, refl, refl)
+nothing_asked = (refl, refl)

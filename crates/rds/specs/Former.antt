@@ -1,11 +1,9 @@
 -- The group former: four words become 104 bits. Source: document 02, request 2; IEC 62106. Definitions only.
 use Rattle.std.specs.Prelude.{ℕ, Bool, true, false, cond, List, [], ◌∷◌, ◌++◌, eqb, length}
-use Rattle.answers.specs.Answer.{Said, accepted, turned, lengths, rule, output_rule, first_cause, kept}
+use Rattle.answers.specs.Answer.{Said, rule, output_rule, first_cause, kept}
 use Rattle.rds_blocks.specs.declared.blocks.Offset.{Offset}
 use Rattle.rds_blocks.specs.declared.blocks.Offset.TheVariants.{A, B, C, CPrime, D}
 use Rattle.rds.specs.declared.former.RdsWords.{RdsWords}
-use Rattle.rds.specs.declared.former.GroupAnswer.{GroupAnswer}
-use Rattle.rds.specs.declared.former.GroupAnswer.TheVariants.{Accepted, Output, WordThree}
 use Rattle.rds_blocks.specs.Division.{bit}
 use Rattle.rds_blocks.specs.Blocks.{block_bits}
 use Rattle.rds.specs.Coding.{Sent, sent_of}
@@ -48,9 +46,3 @@ group_of carried words output =
       said = said;
       sent = kept said (sent_of carried (plain_of words)) (record { output = output; carried = carried });
     }
-
--- the program's answer in these terms
-abbrev pub says_group : GroupAnswer → Said
-says_group Accepted = accepted
-says_group (Output found) = lengths 11 bits found
-says_group WordThree = turned 19

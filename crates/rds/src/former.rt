@@ -1,11 +1,11 @@
 // The group former.
 ghost use Rattle.std.specs.Prelude.{◌≡◌, length};
-ghost use Rattle.answers.specs.Answer.{code_of};
+ghost use Rattle.answers.specs.Answer.{says};
 ghost use Rattle.rds_blocks.specs.Blocks.{block_bits};
 ghost use Rattle.rds.specs.Coding.{byte_of, sent_of};
-ghost use Rattle.rds.specs.Former.{fresh, version_b, third, repeats, plain_of, says_group, group_of};
+ghost use Rattle.rds.specs.Former.{fresh, version_b, third, repeats, plain_of, group_of};
 
-use answers::answer::Code;
+use answers::answer::Refusal;
 use rds_blocks::blocks::{Offset, block};
 use rds_blocks::division::has_place;
 
@@ -28,20 +28,10 @@ pub struct RdsFormer {
     pub carried: bool,
 }
 
-// Formed, or turned back.
-#[derive(Clone, Copy)]
-pub enum GroupAnswer {
-    Accepted,
-    // the output's length
-    Output(usize),
-    // word three differs from word one where C' is taken
-    WordThree,
-}
-
 // What a group's call answers, and the former after it.
 #[derive(Clone, Copy)]
 pub struct GroupReply {
-    pub answer: GroupAnswer,
+    pub answer: Result<(), Refusal>,
     pub former: RdsFormer,
 }
 
@@ -87,7 +77,7 @@ fn is_repeated(words: RdsWords) -> bool
 fn byte(b: bool) -> u8
     ensures { result ≡ byte_of b }
 {
-    if b { 1 } else { 0 }
+    u8::from(b)
 }
 
 // A block's 26 bits, the highest first, each exclusive-or the output bit before it; the last output bit.
@@ -98,9 +88,7 @@ fn send(previous: bool, word: u16, offset: Offset, output: &mut [u8]) -> bool
 {
     let x = block(word, offset);
     let mut last = previous;
-    let mut n = 26u32;
-    while 0 < n {
-        n -= 1;
+    for n in (0..26).rev() {
         let bit = has_place(x, n);
         let next = last != bit;
         output[(25 - n) as usize] = byte(next);
@@ -123,7 +111,7 @@ fn send_blocks(carried: bool, words: RdsWords, output: &mut [u8]) -> bool
 // Four words become 104 bits in the output, a bit a byte.
 pub fn group(former: RdsFormer, words: RdsWords, output: &mut [u8]) -> GroupReply
     ensures { record {
-      said = says_group result.answer;
+      said = says result.answer;
       sent = record { output = output.new; carried = result.former.carried };
     }
         ≡ group_of former.carried words output.old }
@@ -131,42 +119,19 @@ pub fn group(former: RdsFormer, words: RdsWords, output: &mut [u8]) -> GroupRepl
     let n = output.len();
     if n != BITS {
         return GroupReply {
-            answer: GroupAnswer::Output(n),
+            answer: Err(Refusal::Output(BITS, n)),
             former,
         };
     }
     if !is_repeated(words) {
         return GroupReply {
-            answer: GroupAnswer::WordThree,
+            answer: Err(Refusal::WordThree),
             former,
         };
     }
     let carried = send_blocks(former.carried, words, output);
     GroupReply {
-        answer: GroupAnswer::Accepted,
+        answer: Ok(()),
         former: RdsFormer { carried },
-    }
-}
-
-// An answer in three numbers, as a block's answer has it.
-pub fn group_code(a: GroupAnswer) -> Code
-    ensures { result ≡ code_of (says_group a) }
-{
-    match a {
-        GroupAnswer::Accepted => Code {
-            code: 0,
-            expected: 0,
-            got: 0,
-        },
-        GroupAnswer::Output(n) => Code {
-            code: 111,
-            expected: BITS,
-            got: n,
-        },
-        GroupAnswer::WordThree => Code {
-            code: 119,
-            expected: 0,
-            got: 0,
-        },
     }
 }

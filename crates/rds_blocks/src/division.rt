@@ -17,9 +17,7 @@ pub fn remainder(number: u32) -> u32
     ensures { result ≡ remainder_of number }
 {
     let mut x = number;
-    let mut n = 22u32;
-    while 0 < n {
-        n -= 1;
+    for n in (0..22).rev() {
         if has_place(x, n + 10) {
             x = x ^ (GENERATOR << n);
         }

@@ -6,9 +6,7 @@ use Rattle.std.specs.Float.{fin, binary64}
 use Rattle.std.specs.Float.Ieee.{add, mul, to_signed, is_nan}
 use Rattle.numbers.specs.Integers.{sat16_of}
 use Rattle.floats.specs.Floats.{floor_of}
-use Rattle.answers.specs.Answer.{Built, made, refused, built_by, rule}
-use Rattle.scale.specs.declared.scale.Q14.{Q14}
-use Rattle.scale.specs.declared.scale.Q14.TheVariants.{Value, Outside}
+use Rattle.answers.specs.Answer.{Built, built_by, rule}
 
 -- x times the scale, plus 0.5, each rounded once; then the floor, as an i64 that stops at its ends, a NaN giving 0
 unfoldable pub scaled_of : Float → Float → ℤ
@@ -17,11 +15,6 @@ scaled_of x scale = to_signed 63 (floor_of (add binary64 (mul binary64 x scale) 
 -- 2^15 times x, limited; a NaN gives 0
 abbrev pub q15_from_of : Float → ℤ
 q15_from_of x = sat16_of (scaled_of x (fin false 1 (pos 15)))
-
--- the program's answer in document 01's terms
-abbrev pub says_q14 : Q14 → Built ℤ
-says_q14 (Value v) = made v
-says_q14 Outside = refused 18
 
 -- 2^14 times x, where it is within -32768..32767; a NaN and all else is refused under 18
 unfoldable pub q14_from_of : Float → Built ℤ

@@ -1,6 +1,9 @@
 // From f64 to fixed point: floor(x times a scale + 0.5).
 ghost use Rattle.std.specs.Prelude.{◌≡◌};
-ghost use Rattle.scale.specs.Scaled.{scaled_of, q15_from_of, says_q14, q14_from_of};
+ghost use Rattle.answers.specs.Answer.{says_made};
+ghost use Rattle.scale.specs.Scaled.{scaled_of, q15_from_of, q14_from_of};
+
+use answers::answer::Refusal;
 
 // x times the scale, rounded down from the half above it, stopping at the ends of an i64; a NaN
 // gives 0.
@@ -17,26 +20,19 @@ pub fn q15_from_f64(x: f64) -> i16
     numbers::fixed::sat16(floor_scaled(x, 32768.0))
 }
 
-// A Q14 coefficient, or that the value lies outside them: document 01's refusal 18.
-#[derive(Clone, Copy)]
-pub enum Q14 {
-    Value(i16),
-    Outside,
-}
-
 // x as a Q14 number, refused where an i16 does not hold it.
-pub fn q14_from_f64(x: f64) -> Q14
-    ensures { says_q14 result ≡ q14_from_of x }
+pub fn q14_from_f64(x: f64) -> Result<i16, Refusal>
+    ensures { says_made result ≡ q14_from_of x }
 {
     if x != x {
-        return Q14::Outside;
+        return Err(Refusal::OutsideQ14);
     }
     let v = floor_scaled(x, 16384.0);
     if v < -32768 {
-        return Q14::Outside;
+        return Err(Refusal::OutsideQ14);
     }
     if v > 32767 {
-        return Q14::Outside;
+        return Err(Refusal::OutsideQ14);
     }
-    Q14::Value(v as i16)
+    Ok(v as i16)
 }

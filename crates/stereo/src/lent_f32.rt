@@ -6,7 +6,7 @@ ghost use Rattle.decoder.specs.F32.{f32};
 ghost use Rattle.decoder_record.specs.Records.{pll_of_f32};
 ghost use Rattle.decoder_fast.specs.Wide.{count_f32};
 
-use counted::Counted;
+use answers::answer::Refusal;
 use decoder_record::pll_f32::StereoPllF32;
 
 // A block, the fast way.
@@ -17,7 +17,7 @@ pub fn block(
     pilot: &[f32],
     sum: &mut [f32],
     difference: &mut [f32],
-) -> Counted
+) -> Result<usize, Refusal>
     ensures { (record {
       said = said_in result;
       sum = sum.new;

@@ -5,7 +5,7 @@ ghost use Rattle.decoder.specs.Machine.{block_of};
 ghost use Rattle.decoder_q15.specs.Q15.{q15};
 ghost use Rattle.decoder_record_q15.specs.Records.{pll_of_q15};
 
-use answers::answer::Answer;
+use answers::answer::Refusal;
 use decoder_record_q15::pll_q15::StereoPllQ15;
 
 // A block, the fast way.
@@ -16,7 +16,7 @@ pub fn block(
     pilot: &[i16],
     sum: &mut [i16],
     difference: &mut [i16],
-) -> Answer
+) -> Result<(), Refusal>
     ensures { record {
       said = says result;
       sum = sum.new;

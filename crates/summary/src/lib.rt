@@ -14,8 +14,7 @@ ghost use Rattle.summary.specs.Wide.{summary_count};
 ghost use Rattle.summary_record.specs.Record.{summary_fit};
 ghost use Rattle.summary_record.specs.F32.{unsigned_f32, summary_of_f32};
 
-use answers::answer::{ENTRIES, is_accepted};
-use counted::Counted;
+use answers::answer::{ENTRIES, Refusal};
 use decoder::lengths::block_lengths;
 use decoder_fast::checked::step_checked;
 use decoder_record::pll_f32::StereoPllF32;
@@ -25,7 +24,7 @@ use summary_record::in_f32::{SummaryF32, is_fit, larger};
 // A decoder and a summary after a block, and the answer.
 #[derive(Clone, Copy)]
 pub struct SummarizedF32 {
-    pub answer: Counted,
+    pub answer: Result<usize, Refusal>,
     pub decoder: StereoPllF32,
     pub summary: SummaryF32,
 }
@@ -52,15 +51,15 @@ fn run(
     changes: &mut [u32],
     magnitudes: &mut [f32],
 ) -> SummarizedF32
-    requires fact_1 { (length pilot.now ≡ length mpx.now)
+    requires lengths { (length pilot.now ≡ length mpx.now)
         × (length sum.old ≡ length mpx.now)
         × (length difference.old ≡ length mpx.now) }
-    requires fact_2 { (length stereos.old ≡ ending_of s.counts (length mpx.now))
+    requires columns { (length stereos.old ≡ ending_of s.counts (length mpx.now))
         × (length monos.old ≡ ending_of s.counts (length mpx.now))
         × (length changes.old ≡ ending_of s.counts (length mpx.now))
         × (length magnitudes.old ≡ ending_of s.counts (length mpx.now)) }
-    requires fact_3 { summary_fit f32 unsigned_f32 (summary_of_f32 s) ≡ true }
-    ensures fact_1 { record {
+    requires summary { summary_fit f32 unsigned_f32 (summary_of_f32 s) ≡ true }
+    ensures leaves { record {
       said = said_in result.answer;
       sum = sum.new;
       difference = difference.new;
@@ -74,7 +73,7 @@ fn run(
       summary = summary_of_f32 result.summary;
     }
         ≡ summary_run f32 (pll_of_f32 d) (summary_of_f32 s) table.now mpx.now pilot.now }
-    ensures fact_2 { count_in result.answer ≡ count (wide_up_to f32 is_wide table.now mpx.now pilot.now
+    ensures count { count_in result.answer ≡ count (wide_up_to f32 is_wide table.now mpx.now pilot.now
         (pll_of_f32 d) (length mpx.now)) }
 {
     let mut st = d;
@@ -82,8 +81,7 @@ fn run(
     let mut magnitude = s.magnitude;
     let mut wide = 0usize;
     let mut k = 0usize;
-    let mut i = 0usize;
-    while i < mpx.len() {
+    for i in 0..mpx.len() {
         let x = mpx[i];
         let p = pilot[i];
         let o = step_checked(table, st, x, p);
@@ -102,10 +100,9 @@ fn run(
             magnitude = 0.0;
             k += 1;
         }
-        i += 1;
     }
     SummarizedF32 {
-        answer: Counted::Accepted(wide),
+        answer: Ok(wide),
         decoder: st,
         summary: SummaryF32 { counts, magnitude },
     }
@@ -125,7 +122,7 @@ pub fn block(
     changes: &mut [u32],
     magnitudes: &mut [f32],
 ) -> SummarizedF32
-    ensures fact_1 { record {
+    ensures leaves { record {
       said = said_in result.answer;
       sum = sum.new;
       difference = difference.new;
@@ -146,7 +143,7 @@ pub fn block(
           changes = changes.old;
           magnitude = magnitudes.old;
         }) }
-    ensures fact_2 { count_in result.answer ≡ summary_count (pll_of_f32 d) (summary_of_f32 s) table.now mpx.now
+    ensures count { count_in result.answer ≡ summary_count (pll_of_f32 d) (summary_of_f32 s) table.now mpx.now
         pilot.now sum.old difference.old
         (record {
           stereo = stereos.old;
@@ -172,9 +169,9 @@ pub fn block(
         changes.len(),
         magnitudes.len(),
     );
-    if !is_accepted(answer) {
+    if let Err(refusal) = answer {
         return SummarizedF32 {
-            answer: Counted::Refused(answer),
+            answer: Err(refusal),
             decoder: d,
             summary: s,
         };

@@ -1,13 +1,13 @@
 -- The ways out of a block with summaries, over the format: fit says whether the summary is taken, b is what the
--- block itself would answer, a the answer, and ok what the code's test of it says. Assumes nothing.
+-- block itself would answer, and a the answer. Assumes nothing.
 use Prim.Native.Nat.{ℕ}
 use mathlib.Core.Path.{◌≡◌, sym, ap, ◌∙◌}
-use mathlib.Core.Bool.{Bool, true, false, not, cond}
+use mathlib.Core.Bool.{Bool, true, false, cond}
 use mathlib.Core.List.{List, [], ◌∷◌}
 use lib.ListN.{length}
 use Rattle.answers.specs.Answer.{Said, accepts, entries, rule, output_rule}
 use Rattle.answers.proofs.Causes.{AllAccept, each, both, length_is, rule_passed}
-use Rattle.answers.proofs.Tests.{failed, passed, and_out}
+use Rattle.answers.proofs.Tests.{and_out}
 use Rattle.decoder_record.specs.State.{Pll}
 use Rattle.decoder.specs.Machine.{Arithmetic, block_says}
 use Rattle.decoder.proofs.Loops.{lengths_equal}
@@ -34,22 +34,21 @@ module _ {A : Type 0} (F : Arithmetic A) (unsigned : A → Bool) (d : Pll A) (s 
     pub fit_record : F.fit d ≡ true
 
   module _ {fit : Bool} (ef : fit ≡ summary_fit F unsigned s) {b a : Said} (eb : b ≡ own)
-      (ea : a ≡ call_says fit s.counts b (length mpx) (length c.stereo) (length c.mono) (length c.changes) (length c.magnitude))
-      {ok : Bool} (k : ok ≡ accepts a) where
+      (ea : a ≡ call_says fit s.counts b (length mpx) (length c.stereo) (length c.mono) (length c.changes) (length c.magnitude)) where
     pub says_is : a ≡ summary_says F unsigned s own (length mpx) c
     says_is =
         ea
         ∙ ap (λ (f : Bool). call_says f s.counts b (length mpx) (length c.stereo) (length c.mono) (length c.changes) (length c.magnitude)) ef
         ∙ ap (λ (x : Said). summary_says F unsigned s x (length mpx) c) eb
 
-    pub turned_back : not ok ≡ true
+    pub turned_back : accepts a ≡ false
         → record { said = a; sum = sum; difference = difference; columns = c; pll = d; summary = s } ≡ summary_of F unsigned d s t mpx pilot sum difference c
     unfolding summary_of
-    turned_back h = rw (← says_is, failed k h)
+    turned_back h = rw (← says_is, h)
 
-    module _ (h : not ok ≡ false) where
+    module _ (h : accepts a ≡ true) where
       all : AllAccept (rule 20 (summary_fit F unsigned s) ∷ later own (places_of s.counts (length mpx)))
-      all = each (rule 20 (summary_fit F unsigned s) ∷ later own (places_of s.counts (length mpx))) (ap accepts (sym says_is) ∙ passed k h)
+      all = each (rule 20 (summary_fit F unsigned s) ∷ later own (places_of s.counts (length mpx))) (ap accepts (sym says_is) ∙ h)
 
       pub fit_summary : summary_fit F unsigned s ≡ true
       fit_summary = rule_passed 20 (summary_fit F unsigned s) all.0
@@ -74,4 +73,4 @@ module _ {A : Type 0} (F : Arithmetic A) (unsigned : A → Bool) (d : Pll A) (s 
 
       pub carried_out : {r : Summarized A} → r ≡ summary_run F d s t mpx pilot → r ≡ summary_of F unsigned d s t mpx pilot sum difference c
       unfolding summary_of
-      carried_out e = e ∙ rw (← says_is, passed k h)
+      carried_out e = e ∙ rw (← says_is, h)

@@ -16,7 +16,7 @@ ghost use Rattle.summary_counts.specs.Counts.{
   call_says,
 };
 
-use answers::answer::{Answer, then_output};
+use answers::answer::{Refusal, output_rule};
 
 // The samples of a period, what is held of an unfinished one, and the decision of the sample before.
 #[derive(Clone, Copy)]
@@ -56,12 +56,12 @@ pub fn is_fit(c: Counts) -> bool
 
 // One sample more. Of counts that are fit nothing wraps.
 pub fn counted(c: Counts, stereo: bool) -> Counts
-    ensures fact_1 { result ≡ wrapped (counted_of c stereo) }
-    ensures fact_2 { (counts_fit c ≡ true → result ≡ counted_of c stereo) }
+    ensures wrapped { result ≡ wrapped (counted_of c stereo) }
+    ensures exact { (counts_fit c ≡ true → result ≡ counted_of c stereo) }
 {
-    let s = if stereo { 1u32 } else { 0u32 };
-    let m = if stereo { 0u32 } else { 1u32 };
-    let change = if c.before != stereo { 1u32 } else { 0u32 };
+    let s = u32::from(stereo);
+    let m = u32::from(!stereo);
+    let change = u32::from(c.before != stereo);
     Counts {
         period: c.period,
         stereo: std::num::wrapping_add_u32(c.stereo, s),
@@ -110,19 +110,22 @@ pub fn ending(c: Counts, n: usize) -> usize
 pub fn summary_answer(
     fit: bool,
     c: Counts,
-    block: Answer,
+    block: Result<(), Refusal>,
     n: usize,
     stereo: usize,
     mono: usize,
     changes: usize,
     magnitude: usize,
-) -> Answer
+) -> Result<(), Refusal>
     ensures { says result ≡ call_says fit c (says block) n stereo mono changes magnitude }
 {
     if !fit {
-        return Answer::Summary;
+        return Err(Refusal::Summary);
     }
+    block?;
     let places = ending(c, n);
-    let b = then_output(then_output(block, places, stereo), places, mono);
-    then_output(then_output(b, places, changes), places, magnitude)
+    output_rule(places, stereo)?;
+    output_rule(places, mono)?;
+    output_rule(places, changes)?;
+    output_rule(places, magnitude)
 }

@@ -11,7 +11,7 @@ ghost use Rattle.summary_call.specs.Summary.{summary_run, summary_of};
 ghost use Rattle.summary_record.specs.Record.{summary_fit};
 ghost use Rattle.summary_record.specs.Q15.{unsigned_q15, summary_of_q15};
 
-use answers::answer::{Answer, ENTRIES, is_accepted};
+use answers::answer::{ENTRIES, Refusal};
 use decoder_q15::fast::step_checked;
 use decoder_q15::parts::block_answer;
 use decoder_record_q15::pll_q15::StereoPllQ15;
@@ -21,7 +21,7 @@ use summary_record::in_q15::{SummaryQ15, is_fit, larger};
 // A decoder and a summary after a block, and the answer.
 #[derive(Clone, Copy)]
 pub struct SummarizedQ15 {
-    pub answer: Answer,
+    pub answer: Result<(), Refusal>,
     pub decoder: StereoPllQ15,
     pub summary: SummaryQ15,
 }
@@ -48,15 +48,15 @@ fn run(
     changes: &mut [u32],
     magnitudes: &mut [i16],
 ) -> SummarizedQ15
-    requires fact_1 { (length pilot.now ≡ length mpx.now)
+    requires lengths { (length pilot.now ≡ length mpx.now)
         × (length sum.old ≡ length mpx.now)
         × (length difference.old ≡ length mpx.now) }
-    requires fact_2 { (length stereos.old ≡ ending_of s.counts (length mpx.now))
+    requires columns { (length stereos.old ≡ ending_of s.counts (length mpx.now))
         × (length monos.old ≡ ending_of s.counts (length mpx.now))
         × (length changes.old ≡ ending_of s.counts (length mpx.now))
         × (length magnitudes.old ≡ ending_of s.counts (length mpx.now)) }
-    requires fact_3 { summary_fit q15 unsigned_q15 (summary_of_q15 s) ≡ true }
-    requires fact_4 { fit_q15 (pll_of_q15 d) ≡ true }
+    requires summary { summary_fit q15 unsigned_q15 (summary_of_q15 s) ≡ true }
+    requires fit { fit_q15 (pll_of_q15 d) ≡ true }
     ensures { record {
       said = says result.answer;
       sum = sum.new;
@@ -76,8 +76,7 @@ fn run(
     let mut counts = s.counts;
     let mut magnitude = s.magnitude;
     let mut k = 0usize;
-    let mut i = 0usize;
-    while i < mpx.len() {
+    for i in 0..mpx.len() {
         let x = mpx[i];
         let p = pilot[i];
         let o = step_checked(table, st, x, p);
@@ -96,10 +95,9 @@ fn run(
             magnitude = 0;
             k += 1;
         }
-        i += 1;
     }
     SummarizedQ15 {
-        answer: Answer::Accepted,
+        answer: Ok(()),
         decoder: st,
         summary: SummaryQ15 { counts, magnitude },
     }
@@ -159,7 +157,7 @@ pub fn block(
         changes.len(),
         magnitudes.len(),
     );
-    if !is_accepted(answer) {
+    if answer.is_err() {
         return SummarizedQ15 {
             answer,
             decoder: d,

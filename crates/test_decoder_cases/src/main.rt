@@ -10,8 +10,8 @@ use counted::answer_of;
 use decoder::parts::ReplyF32;
 use decoder_fast::FastReply;
 use decoder_q15::parts::ReplyQ15;
-use decoder_record::pll_f32::{NewF32, StereoPllF32};
-use decoder_record_q15::pll_q15::{NewQ15, StereoPllQ15};
+use decoder_record::pll_f32::StereoPllF32;
+use decoder_record_q15::pll_q15::StereoPllQ15;
 use std::io;
 use std::io::{BufWriter, Write};
 use test_words::words::{f32_of, word_f32};
@@ -29,8 +29,8 @@ fn new_f32(
     rate: f64,
 ) -> io::Result<()> {
     match StereoPllF32::new(pilot, natural, level, beta, rate) {
-        NewF32::Made(d) => number(out, word_f32(d.imax)),
-        NewF32::Refused(n) => refused(out, n),
+        Ok(d) => number(out, word_f32(d.imax)),
+        Err(refusal) => refused(out, refusal.number()),
     }
 }
 
@@ -44,8 +44,8 @@ fn new_q15(
     rate: f64,
 ) -> io::Result<()> {
     match StereoPllQ15::new(pilot, natural, level, beta, rate) {
-        NewQ15::Made(d) => signed(out, d.imax),
-        NewQ15::Refused(n) => refused(out, n),
+        Ok(d) => signed(out, d.imax),
+        Err(refusal) => refused(out, refusal.number()),
     }
 }
 
@@ -342,8 +342,8 @@ fn samples_q15(out: &mut impl Write, table: &[i16]) -> io::Result<()> {
 fn at_the_top(out: &mut impl Write) -> io::Result<()> {
     let low = [-32768i16; 4097];
     match StereoPllQ15::new(19000.0, 40.0, 0.00117912543, 0.5, 192000.0) {
-        NewQ15::Made(d) => sample_q15(out, "near the largest i64:", d, &low, 0, -32768),
-        NewQ15::Refused(n) => refused(out, n),
+        Ok(d) => sample_q15(out, "near the largest i64:", d, &low, 0, -32768),
+        Err(refusal) => refused(out, refusal.number()),
     }
 }
 

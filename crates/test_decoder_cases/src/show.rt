@@ -1,5 +1,5 @@
 // What the cases write.
-use answers::answer::{Answer, code_of};
+use answers::answer::{Refusal, code_of};
 use std::io;
 use std::io::Write;
 
@@ -38,7 +38,7 @@ pub(crate) fn refused(out: &mut impl Write, n: u32) -> io::Result<()> {
 }
 
 // A block's answer, with its lengths.
-pub(crate) fn said(out: &mut impl Write, a: Answer) -> io::Result<()> {
+pub(crate) fn said(out: &mut impl Write, a: Result<(), Refusal>) -> io::Result<()> {
     let c = code_of(a);
     if c.code == 0 {
         return write!(out, " accepted");

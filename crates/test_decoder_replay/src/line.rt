@@ -15,10 +15,8 @@ pub(crate) fn read(line: &[u8; 306]) -> Words {
         w: [0u64; 17],
         good: is_formed(line, 17),
     };
-    let mut k = 0usize;
-    while k < 17 {
+    for k in 0..17 {
         out.w[k] = value(line, 17 * k + 17);
-        k += 1;
     }
     out
 }

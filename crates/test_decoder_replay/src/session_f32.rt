@@ -3,11 +3,11 @@ ghost use Rattle.std.specs.Prelude.{◌≤◌};
 
 use crate::lengths::length;
 use crate::{names, words12};
-use answers::answer::{Answer, is_accepted};
+use answers::answer::Refusal;
 use counted::answer_of;
 use decoder::parts::ReplyF32;
 use decoder_fast::FastReply;
-use decoder_record::pll_f32::{NewF32, StereoPllF32};
+use decoder_record::pll_f32::StereoPllF32;
 use test_words::words::{f32_of, f64_of, u32_of, word_f32, word_u32};
 
 // What a call answers, and the decoder after it.
@@ -52,12 +52,12 @@ fn new(d: StereoPllF32, w: &[u64; 17]) -> TurnF32 {
         f64_of(w[3]),
         f64_of(w[4]),
     ) {
-        NewF32::Made(n) => {
+        Ok(n) => {
             let words = words(n);
             TurnF32 { words, next: n }
         }
-        NewF32::Refused(n) => TurnF32 {
-            words: [n as u64, 0, 0, 0, 0, 0, 0, 0, 0, 0, 0, 0],
+        Err(refusal) => TurnF32 {
+            words: [refusal.number() as u64, 0, 0, 0, 0, 0, 0, 0, 0, 0, 0, 0],
             next: d,
         },
     }
@@ -84,7 +84,7 @@ fn hand(w: &[u64; 17]) -> TurnF32 {
 }
 
 // What a call leaves, with the outputs' digests.
-fn left(a: Answer, sum: u64, difference: u64, d: StereoPllF32) -> TurnF32 {
+fn left(a: Result<(), Refusal>, sum: u64, difference: u64, d: StereoPllF32) -> TurnF32 {
     let r = words(d);
     let words = words12::left(
         a,
@@ -105,17 +105,15 @@ fn set(d: StereoPllF32, which: u64) -> TurnF32 {
         1 => d.disable(),
         _ => d.reset(),
     };
-    left(Answer::Accepted, 0, 0, next)
+    left(Ok(()), 0, 0, next)
 }
 
 // A pilot at the decoder's own frequency and phase.
 fn sines(from: u32, step: u32, size: f32, table: &[f32], out: &mut [f32; 80]) {
     let mut p = from;
-    let mut i = 0usize;
-    while i < 80 {
+    for i in 0..80 {
         out[i] = size * lookup::lookup::cos_f32(table, lookup::lookup::sine_at(p));
         p = std::num::wrapping_add_u32(p, step);
-        i += 1;
     }
 }
 
@@ -207,7 +205,7 @@ fn outputs(
     );
     let a = reply.answer;
     let next = reply.decoder;
-    if merged & !fast & is_accepted(a) {
+    if merged & !fast & a.is_ok() {
         return matrixed(next, ns, &sum, &difference);
     }
     left(

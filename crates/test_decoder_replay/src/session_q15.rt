@@ -3,9 +3,9 @@ ghost use Rattle.std.specs.Prelude.{◌≤◌};
 
 use crate::lengths::length;
 use crate::{names, words12};
-use answers::answer::{Answer, is_accepted};
+use answers::answer::Refusal;
 use decoder_q15::parts::ReplyQ15;
-use decoder_record_q15::pll_q15::{NewQ15, StereoPllQ15};
+use decoder_record_q15::pll_q15::StereoPllQ15;
 use test_words::words::{f64_of, i16_of, i64_of, u32_of, word_i64, word_u32};
 
 // What a call answers, and the decoder after it.
@@ -50,12 +50,12 @@ fn new(d: StereoPllQ15, w: &[u64; 17]) -> TurnQ15 {
         f64_of(w[3]),
         f64_of(w[4]),
     ) {
-        NewQ15::Made(n) => {
+        Ok(n) => {
             let words = words(n);
             TurnQ15 { words, next: n }
         }
-        NewQ15::Refused(n) => TurnQ15 {
-            words: [n as u64, 0, 0, 0, 0, 0, 0, 0, 0, 0, 0, 0],
+        Err(refusal) => TurnQ15 {
+            words: [refusal.number() as u64, 0, 0, 0, 0, 0, 0, 0, 0, 0, 0, 0],
             next: d,
         },
     }
@@ -82,7 +82,7 @@ fn hand(w: &[u64; 17]) -> TurnQ15 {
 }
 
 // What a call leaves, with the outputs' digests.
-fn left(a: Answer, sum: u64, difference: u64, d: StereoPllQ15) -> TurnQ15 {
+fn left(a: Result<(), Refusal>, sum: u64, difference: u64, d: StereoPllQ15) -> TurnQ15 {
     let r = words(d);
     let words = words12::left(
         a,
@@ -103,20 +103,18 @@ fn set(d: StereoPllQ15, which: u64) -> TurnQ15 {
         1 => d.disable(),
         _ => d.reset(),
     };
-    left(Answer::Accepted, 0, 0, next)
+    left(Ok(()), 0, 0, next)
 }
 
 // A pilot at the decoder's own frequency and phase.
 fn sines(from: u32, step: u32, size: i16, table: &[i16], out: &mut [i16; 80]) {
     let mut p = from;
-    let mut i = 0usize;
-    while i < 80 {
+    for i in 0..80 {
         out[i] = numbers::fixed::q15_mul(
             size,
             lookup_q15::in_q15::cos_q15(table, lookup::lookup::sine_at(p)),
         );
         p = std::num::wrapping_add_u32(p, step);
-        i += 1;
     }
 }
 
@@ -198,7 +196,7 @@ fn outputs(
     );
     let a = reply.answer;
     let next = reply.decoder;
-    if merged & !fast & is_accepted(a) {
+    if merged & !fast & a.is_ok() {
         return matrixed(next, ns, &sum, &difference);
     }
     left(

@@ -1,6 +1,6 @@
 // The twelve words that a call answers, and digests of longer lists. A decoder's record is the
 // words 1 to 11, in either format: six gains, step0, phase, integrator, level, switches.
-use answers::answer::{Answer, code_of};
+use answers::answer::{Refusal, code_of};
 use test_words::words::word_f64;
 
 // The digest of a list of words, one word further: the list's value in base 1000003, modulo the
@@ -12,20 +12,16 @@ fn digest(h: u64, w: u64) -> u64 {
 // The digest of an output.
 pub(crate) fn digest_f32(x: &[f32; 80]) -> u64 {
     let mut h = 1u64;
-    let mut i = 0usize;
-    while i < 80 {
-        h = digest(h, test_words::words::word_f32(x[i]));
-        i += 1;
+    for &s in x {
+        h = digest(h, test_words::words::word_f32(s));
     }
     h
 }
 
 pub(crate) fn digest_q15(x: &[i16; 80]) -> u64 {
     let mut h = 1u64;
-    let mut i = 0usize;
-    while i < 80 {
-        h = digest(h, test_words::words::word_i16(x[i]));
-        i += 1;
+    for &s in x {
+        h = digest(h, test_words::words::word_i16(s));
     }
     h
 }
@@ -33,10 +29,8 @@ pub(crate) fn digest_q15(x: &[i16; 80]) -> u64 {
 // The digest of the fields that no call changes.
 fn gains(r: &[u64; 12]) -> u64 {
     let mut h = r[7];
-    let mut k = 1usize;
-    while k < 7 {
+    for k in 1..7 {
         h = digest(h, r[k]);
-        k += 1;
     }
     h
 }
@@ -52,7 +46,7 @@ pub(crate) fn switches(stereo: bool, enabled: bool) -> u64 {
 
 // What a call leaves: its answer, the outputs' digests, the record r and the read-outs.
 pub(crate) fn left(
-    a: Answer,
+    a: Result<(), Refusal>,
     sum: u64,
     difference: u64,
     r: &[u64; 12],
@@ -80,11 +74,9 @@ pub(crate) fn left(
 // Whether a call answers what the line has after its five arguments.
 pub(crate) fn same(got: &[u64; 12], line: &[u64; 17]) -> bool {
     let mut equal = true;
-    let mut k = 0usize;
-    while k < 12 {
+    for k in 0..12 {
         let e = got[k] == line[k + 5];
         equal = equal & e;
-        k += 1;
     }
     equal
 }

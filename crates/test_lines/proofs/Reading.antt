@@ -12,8 +12,7 @@ use lib.ListN.{length, get_or, drop, drop_of_length-le}
 use lib.Pow.{pow_mono, pow-add}
 use lib.Seq.{slice, slice-cons, slice_empty, drop-cons}
 use Rattle.answers.proofs.Tests.{and_out}
-use Rattle.test_lines.specs.declared.line.Hex.{Hex}
-use Rattle.test_lines.specs.declared.line.Hex.TheVariants.{Value, Malformed}
+use Rattle.std.specs.Prelude.{Option, Some, None}
 use Rattle.test_lines.specs.Columns.{digit_of, hex_of, word_at, is_word, has_at, all_of, stands_at, formed_of, starts_with, first_of}
 
 -- ---- a word: after i digits v is below 16^i, and the digits left make it the word
@@ -38,8 +37,8 @@ grown v i d b h = subst (λ (n : ℕ). v * 16 + d < n) (sym (ap (λ (n : ℕ). 2
     go n b = omega arith
 
 module _ (l : List ℕ) (at : ℕ) (h : at + 16 ≤ length l) where
-  abbrev goes : ℕ → List ℕ → ℕ → Bool → Hex
-  goes v s d t = cond t (hex_of (v * 16 + d) s) Malformed
+  abbrev goes : ℕ → List ℕ → ℕ → Bool → Option ℕ
+  goes v s d t = cond t (hex_of (v * 16 + d) s) None
 
   one_on : (i : ℕ) → i < 16 → slice (at + i) (at + 16) l ≡ get_or l (at + i) 0 ∷ slice (at + (i + 1)) (at + 16) l
   one_on i k =
@@ -60,13 +59,13 @@ module _ (l : List ℕ) (at : ℕ) (h : at + 16 ≤ length l) where
   is : word_at l at ≡ hex_of 0 (slice at (at + 16) l)
   is = rw (le-leb (at + 16) (length l) h)
 
-  pub no_digit : (v i d : ℕ) → i < 16 → d ≡ digit_of (get_or l (at + i) 0) → 16 ≤ d → Read l at v i → Malformed ≡ word_at l at
+  pub no_digit : (v i d : ℕ) → i < 16 → d ≡ digit_of (get_or l (at + i) 0) → 16 ≤ d → Read l at v i → None ≡ word_at l at
   no_digit v i d k e b r = step v i d false k e (le-ltb d 16 b) r ∙ sym is
 
-  pub read_end : (v i : ℕ) → 16 ≤ i → Read l at v i → Value v ≡ word_at l at
+  pub read_end : (v i : ℕ) → 16 ≤ i → Read l at v i → Some v ≡ word_at l at
   read_end v i k r = let e : 16 ≡ i = omega (arith, r.upto) in ap (hex_of v) (sym (slice_empty (at + 16) l) ∙ ap (λ (n : ℕ). slice (at + n) (at + 16) l) e) ∙ r.left ∙ sym is
 
-pub no_room : (l : List ℕ) (at : ℕ) → length l < at + 16 → Malformed ≡ word_at l at
+pub no_room : (l : List ℕ) (at : ℕ) → length l < at + 16 → None ≡ word_at l at
 no_room l at h = rw (lt-leb (at + 16) (length l) h)
 
 -- ---- a name

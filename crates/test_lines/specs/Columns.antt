@@ -1,30 +1,28 @@
 -- What stands in the columns of a line. Source: oracle/README.md, "The list of answers". Definitions only.
-use Rattle.std.specs.Prelude.{ℕ, zero, suc, ◌+◌, ◌-◌, ◌*◌, ◌/◌, Bool, true, false, ◌&&◌, cond, List, [], ◌∷◌, eqb, leb, ltb, length, get_or, take, drop}
+use Rattle.std.specs.Prelude.{ℕ, zero, suc, ◌+◌, ◌-◌, ◌*◌, ◌/◌, Bool, true, false, ◌&&◌, cond, Option, Some, None, List, [], ◌∷◌, eqb, leb, ltb, length, get_or, take, drop}
 use Rattle.std.proofs.Math.Seq.{slice}
-use Rattle.test_lines.specs.declared.line.Hex.{Hex}
-use Rattle.test_lines.specs.declared.line.Hex.TheVariants.{Value, Malformed}
 
 -- the value of a hexadecimal digit in ASCII, `0` to `9` and `a` to `f`, and 16 for any other byte
 unfoldable pub digit_of : ℕ → ℕ
 digit_of c = cond (leb 48 c && leb c 57) (c - 48) (cond (leb 97 c && leb c 102) (10 + (c - 97)) 16)
 
 -- the number that v becomes by the digits after it
-abbrev pub hex_of : ℕ → List ℕ → Hex
-hex_of v [] = Value v
-hex_of v (c ∷ s) = cond (ltb (digit_of c) 16) (hex_of (v * 16 + digit_of c) s) Malformed
+abbrev pub hex_of : ℕ → List ℕ → Option ℕ
+hex_of v [] = Some v
+hex_of v (c ∷ s) = cond (ltb (digit_of c) 16) (hex_of (v * 16 + digit_of c) s) None
 
 -- the word of the 16 digits from a column on
-abbrev pub word_at : List ℕ → ℕ → Hex
-word_at s at = cond (leb (at + 16) (length s)) (hex_of 0 (slice at (at + 16) s)) Malformed
+abbrev pub word_at : List ℕ → ℕ → Option ℕ
+word_at s at = cond (leb (at + 16) (length s)) (hex_of 0 (slice at (at + 16) s)) None
 
 -- a word's value, or 0 where there is none
-abbrev pub value_in : Hex → ℕ
-value_in (Value v) = v
-value_in Malformed = 0
+abbrev pub value_in : Option ℕ → ℕ
+value_in (Some v) = v
+value_in None = 0
 
-abbrev pub is_word : Hex → Bool
-is_word (Value v) = true
-is_word Malformed = false
+abbrev pub is_word : Option ℕ → Bool
+is_word (Some v) = true
+is_word None = false
 
 -- whether a column has a byte
 abbrev pub has_at : List ℕ → ℕ → ℕ → Bool

@@ -2,12 +2,6 @@
 ghost use Rattle.std.specs.Prelude.{◌≡◌};
 ghost use Rattle.test_lines.specs.Columns.{digit_of, word_at, value_in, is_word, has_at, formed_of, starts_with, find_of};
 
-#[derive(Clone, Copy)]
-enum Hex {
-    Value(u64),
-    Malformed,
-}
-
 // The value of a hexadecimal digit, or 16 for another byte.
 fn digit(c: u8) -> u64
     ensures { result ≡ digit_of c }
@@ -22,26 +16,24 @@ fn digit(c: u8) -> u64
 }
 
 // The word whose 16 digits begin at a column.
-fn word(line: &[u8], at: usize) -> Hex
+fn word(line: &[u8], at: usize) -> Option<u64>
     ensures { result ≡ word_at line.now at }
 {
     if line.len() < 16 {
-        return Hex::Malformed;
+        return None;
     }
     if at > line.len() - 16 {
-        return Hex::Malformed;
+        return None;
     }
     let mut value: u64 = 0;
-    let mut i = 0;
-    while i < 16 {
+    for i in 0..16 {
         let d = digit(line[at + i]);
         if d > 15 {
-            return Hex::Malformed;
+            return None;
         }
         value = value * 16 + d;
-        i += 1;
     }
-    Hex::Value(value)
+    Some(value)
 }
 
 // Whether the byte at a column is the one that has to be there.
@@ -58,20 +50,14 @@ fn has(line: &[u8], at: usize, byte: u8) -> bool
 fn is_word(line: &[u8], at: usize) -> bool
     ensures { result ≡ is_word (word_at line.now at) }
 {
-    match word(line, at) {
-        Hex::Value(_) => true,
-        Hex::Malformed => false,
-    }
+    word(line, at).is_some()
 }
 
 // The word at a column, or 0 where there is none.
 pub fn value(line: &[u8], at: usize) -> u64
     ensures { result ≡ value_in (word_at line.now at) }
 {
-    match word(line, at) {
-        Hex::Value(v) => v,
-        Hex::Malformed => 0,
-    }
+    word(line, at).unwrap_or(0)
 }
 
 // Whether so many words follow the name, with a space before each and a new line after the last.
@@ -79,13 +65,11 @@ pub fn is_formed(line: &[u8], count: usize) -> bool
     ensures { result ≡ formed_of line.now count }
 {
     let mut at = 16usize;
-    let mut k = 0usize;
-    while k < count {
+    for _k in 0..count {
         if !(has(line, at, b' ') & is_word(line, at + 1)) {
             return false;
         }
         at += 17;
-        k += 1;
     }
     has(line, at, b'\n')
 }
@@ -97,12 +81,10 @@ fn starts(line: &[u8], name: &[u8]) -> bool
     if line.len() < name.len() {
         return false;
     }
-    let mut i = 0;
-    while i < name.len() {
+    for i in 0..name.len() {
         if line[i] != name[i] {
             return false;
         }
-        i += 1;
     }
     true
 }
@@ -113,14 +95,12 @@ pub fn find(line: &[u8], names: &[u8]) -> usize
     ensures { result ≡ find_of line.now names.now }
 {
     let count = names.len() / 16;
-    let mut k = 0;
-    while k < count {
+    for k in 0..count {
         let from = 16 * k;
         let to = from + 16;
         if starts(line, &names[from..to]) {
             return k;
         }
-        k += 1;
     }
-    k
+    count
 }

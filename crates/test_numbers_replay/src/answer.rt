@@ -21,9 +21,9 @@ pub(crate) fn is_typed(function: usize, a: u64, b: u64) -> bool {
 
 fn q14(x: f64) -> u64 {
     match scale::scale::q14_from_f64(x) {
-        scale::scale::Q14::Value(v) => words::word_i16(v),
+        Ok(v) => words::word_i16(v),
         // a refusal's word is 32768 and its number, above every i16
-        scale::scale::Q14::Outside => 32786,
+        Err(refusal) => 32768 + refusal.number() as u64,
     }
 }
 

@@ -7,8 +7,8 @@ use test_tally::tally::Tally;
 fn judge(out: &mut impl Write, t: Tally, line: &[u8; 68]) -> io::Result<Tally> {
     let read = crate::line::parse(line);
     match read {
-        crate::line::Read::Malformed => test_tally::tally::refuse(out, t, line),
-        crate::line::Read::Case(case) => {
+        None => test_tally::tally::refuse(out, t, line),
+        Some(case) => {
             if !crate::answer::is_typed(case.function, case.a, case.b) {
                 return test_tally::tally::refuse(out, t, line);
             }

@@ -1,5 +1,5 @@
 // What the cases write.
-use answers::answer::{Answer, code_of};
+use answers::answer::{Refusal, code_of};
 use decoder_record::pll_f32::StereoPllF32;
 use decoder_record_q15::pll_q15::StereoPllQ15;
 use std::io;
@@ -14,7 +14,7 @@ fn number(out: &mut impl Write, n: u64) -> io::Result<()> {
 }
 
 // A round's answer, with its lengths.
-pub(crate) fn said(out: &mut impl Write, a: Answer) -> io::Result<()> {
+pub(crate) fn said(out: &mut impl Write, a: Result<(), Refusal>) -> io::Result<()> {
     let c = code_of(a);
     if c.code == 0 {
         return write!(out, ": accepted");
@@ -28,10 +28,8 @@ pub(crate) fn said(out: &mut impl Write, a: Answer) -> io::Result<()> {
 // One number for each decoder.
 pub(crate) fn counts(out: &mut impl Write, name: &str, all: [usize; 8]) -> io::Result<()> {
     label(out, name)?;
-    let mut k = 0usize;
-    while k < 8 {
-        number(out, all[k] as u64)?;
-        k += 1;
+    for n in all {
+        number(out, n as u64)?;
     }
     Ok(())
 }
@@ -40,12 +38,9 @@ pub(crate) fn counts(out: &mut impl Write, name: &str, all: [usize; 8]) -> io::R
 // dot where no sample was worked.
 pub(crate) fn decoders_f32(out: &mut impl Write, all: [StereoPllF32; 8]) -> io::Result<()> {
     label(out, " decoders")?;
-    let mut k = 0usize;
-    while k < 8 {
-        let d = all[k];
+    for d in all {
         number(out, d.phase as u64)?;
         level_f32(out, d.level)?;
-        k += 1;
     }
     Ok(())
 }
@@ -64,12 +59,9 @@ fn high(out: &mut impl Write, is: bool) -> io::Result<()> {
 
 pub(crate) fn decoders_q15(out: &mut impl Write, all: [StereoPllQ15; 8]) -> io::Result<()> {
     label(out, " decoders")?;
-    let mut k = 0usize;
-    while k < 8 {
-        let d = all[k];
+    for d in all {
         number(out, d.phase as u64)?;
         level_q15(out, d.level)?;
-        k += 1;
     }
     Ok(())
 }
@@ -85,10 +77,8 @@ fn level_q15(out: &mut impl Write, level: i64) -> io::Result<()> {
 // An output: a dot at each place that still holds -1, which no case writes.
 pub(crate) fn output_f32(out: &mut impl Write, name: &str, x: &[f32; 24]) -> io::Result<()> {
     label(out, name)?;
-    let mut i = 0usize;
-    while i < 24 {
-        place_f32(out, x[i])?;
-        i += 1;
+    for &v in x {
+        place_f32(out, v)?;
     }
     Ok(())
 }
@@ -103,10 +93,8 @@ fn place_f32(out: &mut impl Write, x: f32) -> io::Result<()> {
 
 pub(crate) fn output_q15(out: &mut impl Write, name: &str, x: &[i16; 24]) -> io::Result<()> {
     label(out, name)?;
-    let mut i = 0usize;
-    while i < 24 {
-        place_q15(out, x[i])?;
-        i += 1;
+    for &v in x {
+        place_q15(out, v)?;
     }
     Ok(())
 }

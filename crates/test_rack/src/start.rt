@@ -29,8 +29,7 @@ pub(crate) fn waiting(text: &[u8]) -> [Waiting; 8] {
         difference: 0,
     };
     let mut all = [none; 8];
-    let mut k = 0usize;
-    while k < 8 {
+    for k in 0..8 {
         let w = Waiting {
             mpx: digit(letter(text, 4 * k)),
             pilot: digit(letter(text, 4 * k + 1)),
@@ -38,7 +37,6 @@ pub(crate) fn waiting(text: &[u8]) -> [Waiting; 8] {
             difference: digit(letter(text, 4 * k + 3)),
         };
         all[k] = w;
-        k += 1;
     }
     all
 }
@@ -77,13 +75,11 @@ fn decoder_f32(phase: u32, mark: u8) -> StereoPllF32 {
 pub(crate) fn rack_f32(marks: &[u8]) -> [StereoPllF32; 8] {
     let first = decoder_f32(0, b' ');
     let mut all = [first; 8];
-    let mut k = 0usize;
     let mut phase = 0u32;
-    while k < 8 {
+    for k in 0..8 {
         let d = decoder_f32(phase, letter(marks, k));
         all[k] = d;
         phase = std::num::wrapping_add_u32(phase, 1000);
-        k += 1;
     }
     all
 }
@@ -112,38 +108,32 @@ fn decoder_q15(phase: u32, mark: u8) -> StereoPllQ15 {
 pub(crate) fn rack_q15(marks: &[u8]) -> [StereoPllQ15; 8] {
     let first = decoder_q15(0, b' ');
     let mut all = [first; 8];
-    let mut k = 0usize;
     let mut phase = 0u32;
-    while k < 8 {
+    for k in 0..8 {
         let d = decoder_q15(phase, letter(marks, k));
         all[k] = d;
         phase = std::num::wrapping_add_u32(phase, 1000);
-        k += 1;
     }
     all
 }
 
 // The samples by their places: mpx 1, 2, 3 and so on, and a pilot that is high at every other place.
 pub(crate) fn samples_f32(mpx: &mut [f32; 24], pilot: &mut [f32; 24]) {
-    let mut i = 0usize;
     let mut x = 1.0f32;
     let mut p = 1.0f32;
-    while i < 24 {
+    for i in 0..24 {
         mpx[i] = x;
         pilot[i] = p;
         x = x + 1.0;
         p = 1.0 - p;
-        i += 1;
     }
 }
 
 pub(crate) fn samples_q15(mpx: &mut [i16; 24], pilot: &mut [i16; 24]) {
-    let mut i = 0usize;
     let mut high = true;
-    while i < 24 {
+    for i in 0..24 {
         mpx[i] = test_words::words::i16_of(std::num::wrapping_add_u64(i as u64, 1));
         pilot[i] = if high { 32767 } else { 0 };
         high = !high;
-        i += 1;
     }
 }

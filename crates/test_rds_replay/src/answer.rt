@@ -1,5 +1,6 @@
 // What the former answers to a line, as words.
-use rds::former::{GroupAnswer, GroupReply, RdsFormer, RdsWords};
+use answers::answer::code_of;
+use rds::former::{GroupReply, RdsFormer, RdsWords};
 
 // The five answers of a line.
 #[derive(Clone, Copy)]
@@ -69,14 +70,6 @@ fn untouched(room: &[u8; 208]) -> u64 {
     n
 }
 
-fn is_accepted(a: GroupAnswer) -> bool {
-    match a {
-        GroupAnswer::Accepted => true,
-        GroupAnswer::Output(_) => false,
-        GroupAnswer::WordThree => false,
-    }
-}
-
 fn halves(accepted: bool, room: &[u8; 208], from: usize) -> u64 {
     if accepted { packed(room, from) } else { 0 }
 }
@@ -86,8 +79,8 @@ pub(crate) fn group(former: RdsFormer, words: u64, length: u64) -> Called {
     let reply = call(former, words_of(words), length as usize, &mut room);
     let said = reply.answer;
     let next = reply.former;
-    let code = rds::former::group_code(said);
-    let accepted = is_accepted(said);
+    let code = code_of(said);
+    let accepted = said.is_ok();
     Called {
         answers: Answers {
             code: code.code as u64,

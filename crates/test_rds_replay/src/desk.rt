@@ -1,6 +1,6 @@
 // Reads the list line by line and judges each. The former lives from line to line.
 use crate::answer::{Answers, Called};
-use crate::line::{Case, Read};
+use crate::line::Case;
 use crate::names;
 use rds::former::RdsFormer;
 use std::io;
@@ -51,11 +51,11 @@ fn judge(out: &mut impl Write, d: Desk, line: &[u8; 136]) -> io::Result<Desk> {
     let former = d.former;
     let read = crate::line::parse(line);
     match read {
-        Read::Malformed => Ok(Desk {
+        None => Ok(Desk {
             tally: tally::refuse(out, t, line)?,
             former,
         }),
-        Read::Case(case) => {
+        Some(case) => {
             let c = called(former, case);
             let next = c.former;
             let came = c.answers;

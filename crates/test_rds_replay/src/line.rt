@@ -12,21 +12,15 @@ pub struct Case {
     pub answers: Answers,
 }
 
-#[derive(Clone, Copy)]
-pub enum Read {
-    Case(Case),
-    Malformed,
-}
-
-pub(crate) fn parse(line: &[u8; 136]) -> Read {
+pub(crate) fn parse(line: &[u8; 136]) -> Option<Case> {
     let function = find(line, &NAMES);
     if function >= COUNT {
-        return Read::Malformed;
+        return None;
     }
     if !is_formed(line, 7) {
-        return Read::Malformed;
+        return None;
     }
-    Read::Case(Case {
+    Some(Case {
         function,
         words: value(line, 17),
         length: value(line, 34),

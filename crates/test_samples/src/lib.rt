@@ -76,19 +76,15 @@ fn sample_q15(spec: u64, i: usize) -> i16
 pub fn fill_f32(spec: u64, out: &mut [f32])
     ensures { out.new ≡ samples (length out.old) (λ i. sample_f32_of spec i) }
 {
-    let mut i = 0usize;
-    while i < out.len() {
+    for i in 0..out.len() {
         out[i] = sample_f32(spec, i);
-        i += 1;
     }
 }
 
 pub fn fill_q15(spec: u64, out: &mut [i16])
     ensures { out.new ≡ samples (length out.old) (λ i. sample_q15_of spec i) }
 {
-    let mut i = 0usize;
-    while i < out.len() {
+    for i in 0..out.len() {
         out[i] = sample_q15(spec, i);
-        i += 1;
     }
 }

@@ -21,14 +21,12 @@ fn answer(out: &mut impl Write, pilot: &[f32]) -> io::Result<()> {
 fn each(out: &mut impl Write, x: f32, block: &mut [f32]) -> io::Result<()> {
     write!(out, "{} samples:", block.len())?;
     answer(out, block)?;
-    let mut k = 0usize;
-    while k < block.len() {
+    for k in 0..block.len() {
         let kept = block[k];
         block[k] = x;
         let written = answer(out, block);
         block[k] = kept;
         written?;
-        k += 1;
     }
     writeln!(out)
 }

@@ -1,9 +1,10 @@
 // Document 01's other cases, and one case for each refusal of these calls. What each has to write
 // stands in the file stdout.
-use crate::write::{done, line, number, refusal};
-use encoder_record::encode::{NewEncode, SetEncode, StereoEncode};
-use encoder_record_rds::rds::{NewEncodeRds, SetEncodeRds, StereoEncodeRds};
-use oscillator::nco::{Increment, Nco, NewNco, SetNco};
+use crate::write::{done, line, number, refused};
+use answers::answer::Refusal;
+use encoder_record::encode::StereoEncode;
+use encoder_record_rds::rds::StereoEncodeRds;
+use oscillator::nco::Nco;
 use std::io;
 use std::io::Write;
 use test_words::words::f32_of;
@@ -11,16 +12,16 @@ use test_words::words::f32_of;
 fn increment(out: &mut impl Write, name: &str, freq: f64, rate: f64) -> io::Result<()> {
     line(out, name)?;
     match oscillator::nco::increment_for(freq, rate) {
-        Increment::Made(inc) => number(out, inc as u64)?,
-        Increment::Refused(n) => refusal(out, n)?,
+        Ok(inc) => number(out, inc as u64)?,
+        Err(refusal) => refused(out, refusal.number())?,
     }
     done(out)
 }
 
 fn new_oscillator(out: &mut impl Write, freq: f64, rate: f64) -> io::Result<()> {
     match Nco::new(freq, rate) {
-        NewNco::Made(o) => number(out, o.inc as u64),
-        NewNco::Refused(n) => refusal(out, n),
+        Ok(o) => number(out, o.inc as u64),
+        Err(refusal) => refused(out, refusal.number()),
     }
 }
 
@@ -29,16 +30,20 @@ fn state(out: &mut impl Write, o: Nco) -> io::Result<()> {
     number(out, o.inc as u64)
 }
 
+// The refusal of a set call, where it was turned back.
+fn turned_back(out: &mut impl Write, a: Result<(), Refusal>) -> io::Result<()> {
+    match a {
+        Ok(()) => Ok(()),
+        Err(refusal) => refused(out, refusal.number()),
+    }
+}
+
 // Another frequency for an oscillator that stands at phase 5 with the increment 7.
 fn old_oscillator(out: &mut impl Write, freq: f64, rate: f64) -> io::Result<()> {
-    let old = Nco { phase: 5, inc: 7 };
-    match old.set_frequency(freq, rate) {
-        SetNco::Done(o) => state(out, o),
-        SetNco::Refused(n, o) => {
-            refusal(out, n)?;
-            state(out, o)
-        }
-    }
+    let mut o = Nco { phase: 5, inc: 7 };
+    let a = o.set_frequency(freq, rate);
+    turned_back(out, a)?;
+    state(out, o)
 }
 
 fn oscillator(out: &mut impl Write, name: &str, freq: f64, rate: f64) -> io::Result<()> {
@@ -56,8 +61,8 @@ fn new_encoder(
     rate: f64,
 ) -> io::Result<()> {
     match StereoEncode::new(frequency, main, pilot, rate) {
-        NewEncode::Made(e) => number(out, e.nco.inc as u64),
-        NewEncode::Refused(n) => refusal(out, n),
+        Ok(e) => number(out, e.nco.inc as u64),
+        Err(refusal) => refused(out, refusal.number()),
     }
 }
 
@@ -70,8 +75,8 @@ fn new_encoder_rds(
     rate: f64,
 ) -> io::Result<()> {
     match StereoEncodeRds::new(frequency, main, pilot, rds, rate) {
-        NewEncodeRds::Made(e) => number(out, e.enc.nco.inc as u64),
-        NewEncodeRds::Refused(n) => refusal(out, n),
+        Ok(e) => number(out, e.enc.nco.inc as u64),
+        Err(refusal) => refused(out, refusal.number()),
     }
 }
 
@@ -99,22 +104,15 @@ fn level(out: &mut impl Write, x: f32) -> io::Result<()> {
 // as a pattern.
 fn set(out: &mut impl Write, name: &str, to: f32) -> io::Result<()> {
     line(out, name)?;
+    let mut e = an_encoder();
+    let a = e.set_pilot(to);
+    turned_back(out, a)?;
+    level(out, e.pilot)?;
     let enc = an_encoder();
-    match enc.set_pilot(to) {
-        SetEncode::Done(e) => level(out, e.pilot)?,
-        SetEncode::Refused(n, e) => {
-            refusal(out, n)?;
-            level(out, e.pilot)?;
-        }
-    }
-    let with_rds = StereoEncodeRds { enc, rds: 0.125 };
-    match with_rds.set_rds(to) {
-        SetEncodeRds::Done(e) => level(out, e.rds)?,
-        SetEncodeRds::Refused(n, e) => {
-            refusal(out, n)?;
-            level(out, e.rds)?;
-        }
-    }
+    let mut with_rds = StereoEncodeRds { enc, rds: 0.125 };
+    let b = with_rds.set_rds(to);
+    turned_back(out, b)?;
+    level(out, with_rds.rds)?;
     done(out)
 }
 

@@ -1,19 +1,19 @@
 // Blocks of right and of wrong lengths, through the matrix and the encoders. What each has to write
 // stands in the file stdout.
 use crate::cases::an_encoder;
-use crate::write::{done, line, number, refusal};
-use answers::answer::{Answer, code_of};
+use crate::write::{done, line, number, refused};
+use answers::answer::{Refusal, code_of};
 use encoder_record_rds::rds::StereoEncodeRds;
 use std::io;
 use std::io::Write;
 
 // A block's answer, with its lengths.
-fn said(out: &mut impl Write, a: Answer) -> io::Result<()> {
+fn said(out: &mut impl Write, a: Result<(), Refusal>) -> io::Result<()> {
     let c = code_of(a);
     if c.code == 0 {
         return write!(out, " accepted");
     }
-    refusal(out, c.code % 100)?;
+    refused(out, c.code % 100)?;
     number(out, c.expected as u64)?;
     number(out, c.got as u64)
 }

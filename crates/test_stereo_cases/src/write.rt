@@ -14,7 +14,7 @@ pub(crate) fn done(out: &mut impl Write) -> io::Result<()> {
     writeln!(out)
 }
 
-pub(crate) fn refusal(out: &mut impl Write, n: u32) -> io::Result<()> {
+pub(crate) fn refused(out: &mut impl Write, n: u32) -> io::Result<()> {
     write!(out, " refused by")?;
     number(out, n as u64)
 }

@@ -1,15 +1,15 @@
 // What our functions answer, as a word.
 use crate::line::Case;
 use crate::{names, seeds};
-use answers::answer::{Answer, is_accepted};
-use encoder_record::encode::{NewEncode, SetEncode, StereoEncode};
-use encoder_record_rds::rds::{NewEncodeRds, SetEncodeRds, StereoEncodeRds};
-use oscillator::nco::{Increment, Nco};
+use answers::answer::Refusal;
+use encoder_record::encode::StereoEncode;
+use encoder_record_rds::rds::StereoEncodeRds;
+use oscillator::nco::Nco;
 use test_words::words;
 
 // A refusal in the place of an increment is 2^32 and its number.
-fn refused(n: u32) -> u64 {
-    4294967296 + n as u64
+fn refused(refusal: Refusal) -> u64 {
+    4294967296 + refusal.number() as u64
 }
 
 // The answer where a block was turned back: no line has it.
@@ -17,8 +17,8 @@ const TURNED_BACK: u64 = 18446744073709551615;
 
 fn increment_for(freq: f64, rate: f64) -> u64 {
     match oscillator::nco::increment_for(freq, rate) {
-        Increment::Made(inc) => words::word_u32(inc),
-        Increment::Refused(n) => refused(n),
+        Ok(inc) => words::word_u32(inc),
+        Err(refusal) => refused(refusal),
     }
 }
 
@@ -30,15 +30,15 @@ fn advance(phase: u32, inc: u32, n: u64) -> u64 {
 
 fn encode_new(frequency: f64, main: f32, pilot: f32, rate: f64) -> u64 {
     match StereoEncode::new(frequency, main, pilot, rate) {
-        NewEncode::Made(e) => words::word_u32(e.nco.inc),
-        NewEncode::Refused(n) => refused(n),
+        Ok(e) => words::word_u32(e.nco.inc),
+        Err(refusal) => refused(refusal),
     }
 }
 
 fn encode_rds_new(frequency: f64, main: f32, pilot: f32, rds: f32, rate: f64) -> u64 {
     match StereoEncodeRds::new(frequency, main, pilot, rds, rate) {
-        NewEncodeRds::Made(e) => words::word_u32(e.enc.nco.inc),
-        NewEncodeRds::Refused(n) => refused(n),
+        Ok(e) => words::word_u32(e.enc.nco.inc),
+        Err(refusal) => refused(refusal),
     }
 }
 
@@ -63,21 +63,27 @@ fn encoder(phases: u64, levels: u64) -> StereoEncode {
     }
 }
 
+// The number of the refusal, or 0.
+fn number_in(a: Result<(), Refusal>) -> u32 {
+    match a {
+        Ok(()) => 0,
+        Err(refusal) => refusal.number(),
+    }
+}
+
 // The number of the refusal, or 0, and the level after it.
 fn set_pilot(pilot: f32, to: f32) -> u64 {
-    let e = StereoEncode {
+    let mut e = StereoEncode {
         nco: Nco { phase: 1, inc: 2 },
         main: 0.5,
         pilot,
     };
-    match e.set_pilot(to) {
-        SetEncode::Done(new) => both(0, words::word_f32(new.pilot)),
-        SetEncode::Refused(n, old) => both(n, words::word_f32(old.pilot)),
-    }
+    let a = e.set_pilot(to);
+    both(number_in(a), words::word_f32(e.pilot))
 }
 
 fn set_rds(level: f32, to: f32) -> u64 {
-    let e = StereoEncodeRds {
+    let mut e = StereoEncodeRds {
         enc: StereoEncode {
             nco: Nco { phase: 1, inc: 2 },
             main: 0.5,
@@ -85,10 +91,8 @@ fn set_rds(level: f32, to: f32) -> u64 {
         },
         rds: level,
     };
-    match e.set_rds(to) {
-        SetEncodeRds::Done(new) => both(0, words::word_f32(new.rds)),
-        SetEncodeRds::Refused(n, old) => both(n, words::word_f32(old.rds)),
-    }
+    let a = e.set_rds(to);
+    both(number_in(a), words::word_f32(e.rds))
 }
 
 fn at_f32(x: &[f32; 16], k: u64) -> u64 {
@@ -100,8 +104,8 @@ fn at_q15(x: &[i16; 16], k: u64) -> u64 {
 }
 
 // The word where a block was accepted.
-fn accepted(a: Answer, w: u64) -> u64 {
-    if is_accepted(a) { w } else { TURNED_BACK }
+fn accepted(a: Result<(), Refusal>, w: u64) -> u64 {
+    if a.is_ok() { w } else { TURNED_BACK }
 }
 
 // Of a block of 16 samples: left at k below 16, right from there on.

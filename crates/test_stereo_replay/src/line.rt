@@ -14,21 +14,15 @@ pub struct Case {
     pub answer: u64,
 }
 
-#[derive(Clone, Copy)]
-pub enum Read {
-    Case(Case),
-    Malformed,
-}
-
-pub(crate) fn parse(line: &[u8; 119]) -> Read {
+pub(crate) fn parse(line: &[u8; 119]) -> Option<Case> {
     let function = find(line, &NAMES);
     if function >= COUNT {
-        return Read::Malformed;
+        return None;
     }
     if !is_formed(line, 6) {
-        return Read::Malformed;
+        return None;
     }
-    Read::Case(Case {
+    Some(Case {
         function,
         a: value(line, 17),
         b: value(line, 34),

@@ -13,8 +13,8 @@ fn judge(
 ) -> io::Result<Tally> {
     let read = crate::line::parse(line);
     match read {
-        crate::line::Read::Malformed => test_tally::tally::refuse(out, t, line),
-        crate::line::Read::Case(case) => {
+        None => test_tally::tally::refuse(out, t, line),
+        Some(case) => {
             let got = crate::answer::answer(cos, cos_q15, case);
             if got == case.answer {
                 Ok(test_tally::tally::agree(t, case.function))

@@ -80,20 +80,16 @@ fn mpx_q15(c: u8) -> i16 {
 }
 
 fn fill_f32(script: &[u8], pilot: &mut [f32; 7], mpx: &mut [f32; 7]) {
-    let mut i = 0usize;
-    while i < 7 {
+    for i in 0..7 {
         pilot[i] = pilot_f32(letter(script, 2 * i));
         mpx[i] = mpx_f32(letter(script, 2 * i + 1));
-        i += 1;
     }
 }
 
 fn fill_q15(script: &[u8], pilot: &mut [i16; 7], mpx: &mut [i16; 7]) {
-    let mut i = 0usize;
-    while i < 7 {
+    for i in 0..7 {
         pilot[i] = pilot_q15(letter(script, 2 * i));
         mpx[i] = mpx_q15(letter(script, 2 * i + 1));
-        i += 1;
     }
 }
 

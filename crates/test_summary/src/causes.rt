@@ -190,10 +190,8 @@ fn ordered(out: &mut impl Write, pattern: &[u8], ones: &[f32], tops: &[i16]) -> 
 fn windows(out: &mut impl Write, text: &[u8], ones: &[f32], tops: &[i16]) -> io::Result<()>
     requires { (length ones.now ≡ 4097) × (length tops.now ≡ 4097) }
 {
-    let mut k = 9usize;
-    while k < text.len() {
-        ordered(out, &text[k - 9..k + 1], ones, tops)?;
-        k += 1;
+    for pattern in text.windows(10) {
+        ordered(out, pattern, ones, tops)?;
     }
     Ok(())
 }

@@ -1,5 +1,5 @@
 // What the cases write.
-use answers::answer::{Answer, code_of};
+use answers::answer::{Refusal, code_of};
 use std::io;
 use std::io::Write;
 use summary_counts::Counts;
@@ -43,7 +43,7 @@ pub(crate) fn sample(out: &mut impl Write, x: i16) -> io::Result<()> {
 }
 
 // A block's answer, with its lengths.
-pub(crate) fn said(out: &mut impl Write, a: Answer) -> io::Result<()> {
+pub(crate) fn said(out: &mut impl Write, a: Result<(), Refusal>) -> io::Result<()> {
     let c = code_of(a);
     if c.code == 0 {
         return write!(out, ": accepted");
@@ -92,30 +92,24 @@ fn place_i16(out: &mut impl Write, x: i16) -> io::Result<()> {
 // An output, all of its places.
 pub(crate) fn numbers(out: &mut impl Write, name: &[u8], x: &[u32]) -> io::Result<()> {
     label(out, name)?;
-    let mut i = 0usize;
-    while i < x.len() {
-        place_u32(out, x[i])?;
-        i += 1;
+    for &v in x {
+        place_u32(out, v)?;
     }
     Ok(())
 }
 
 pub(crate) fn patterns(out: &mut impl Write, name: &[u8], x: &[f32]) -> io::Result<()> {
     label(out, name)?;
-    let mut i = 0usize;
-    while i < x.len() {
-        place_f32(out, x[i])?;
-        i += 1;
+    for &v in x {
+        place_f32(out, v)?;
     }
     Ok(())
 }
 
 pub(crate) fn samples(out: &mut impl Write, name: &[u8], x: &[i16]) -> io::Result<()> {
     label(out, name)?;
-    let mut i = 0usize;
-    while i < x.len() {
-        place_i16(out, x[i])?;
-        i += 1;
+    for &v in x {
+        place_i16(out, v)?;
     }
     Ok(())
 }

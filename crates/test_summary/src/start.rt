@@ -1,8 +1,6 @@
 // The decoders and summaries that the cases start from. With tables of one value and no gains the
 // level after a sample is its pilot sample, so the pilot alone decides between stereo and mono.
 use crate::call::Both;
-use answers::answer::Answer;
-use counted::Counted;
 use decoder_record::pll_f32::StereoPllF32;
 use decoder_record_q15::pll_q15::StereoPllQ15;
 use summary::SummarizedF32;
@@ -51,12 +49,12 @@ pub(crate) fn decoder_q15(kp: i64, stereo: bool, enabled: bool) -> StereoPllQ15 
 pub(crate) fn fresh(d: StereoPllF32, e: StereoPllQ15, period: u32) -> Both {
     Both {
         f: SummarizedF32 {
-            answer: Counted::Accepted(0),
+            answer: Ok(0),
             decoder: d,
             summary: SummaryF32::new(period),
         },
         q: SummarizedQ15 {
-            answer: Answer::Accepted,
+            answer: Ok(()),
             decoder: e,
             summary: SummaryQ15::new(period),
         },
@@ -67,7 +65,7 @@ pub(crate) fn fresh(d: StereoPllF32, e: StereoPllQ15, period: u32) -> Both {
 pub(crate) fn held(d: StereoPllF32, e: StereoPllQ15, counts: Counts, m: f32, k: i16) -> Both {
     Both {
         f: SummarizedF32 {
-            answer: Counted::Accepted(0),
+            answer: Ok(0),
             decoder: d,
             summary: SummaryF32 {
                 counts,
@@ -75,7 +73,7 @@ pub(crate) fn held(d: StereoPllF32, e: StereoPllQ15, counts: Counts, m: f32, k: 
             },
         },
         q: SummarizedQ15 {
-            answer: Answer::Accepted,
+            answer: Ok(()),
             decoder: e,
             summary: SummaryQ15 {
                 counts,

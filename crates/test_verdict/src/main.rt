@@ -3,7 +3,7 @@
 // file stdout; it was worked out from document 02, request 5, by exact fractions.
 #![tactic(auto)]
 
-use encoder_record::encode::{NewEncode, StereoEncode};
+use encoder_record::encode::StereoEncode;
 use std::io;
 use std::io::{BufWriter, Write};
 use test_words::words::{f32_of, f64_of};
@@ -41,8 +41,8 @@ fn no_amplitude(out: &mut impl Write, frequency: f64) -> io::Result<()> {
 
 fn encoder(out: &mut impl Write, frequency: f64) -> io::Result<()> {
     match StereoEncode::new(frequency, 0.9, 0.09, 192000.0) {
-        NewEncode::Made(_) => write!(out, " made"),
-        NewEncode::Refused(n) => write!(out, " refused by {n}"),
+        Ok(_) => write!(out, " made"),
+        Err(refusal) => write!(out, " refused by {}", refusal.number()),
     }
 }
 

@@ -4,8 +4,7 @@
 // exact fractions.
 #![tactic(auto)]
 
-use answers::answer::code_of;
-use counted::Counted;
+use answers::answer::Refusal;
 use decoder_record::pll_f32::StereoPllF32;
 use std::io;
 use std::io::{BufWriter, Write};
@@ -90,12 +89,12 @@ fn pilots(a: u64, b: u64, c: u64, d: u64) -> [f32; 4] {
 }
 
 // The count of an accepted call, or the refusal's number.
-fn told(out: &mut impl Write, c: Counted) -> io::Result<()> {
-    match c {
-        Counted::Accepted(n) => { number(out, n as u64) }
-        Counted::Refused(a) => {
+fn told(out: &mut impl Write, counted: Result<usize, Refusal>) -> io::Result<()> {
+    match counted {
+        Ok(n) => number(out, n as u64),
+        Err(refusal) => {
             write!(out, " refused by")?;
-            number(out, (code_of(a).code % 100) as u64)
+            number(out, refusal.number() as u64)
         }
     }
 }

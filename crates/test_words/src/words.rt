@@ -78,7 +78,7 @@ pub fn word_u32(x: u32) -> u64
 pub fn word_bool(x: bool) -> u64
     ensures { result ≡ cond x 1 0 }
 {
-    if x { 1 } else { 0 }
+    u64::from(x)
 }
 
 // A NaN's pattern gives the NaN of 0.0 / 0.0: from_bits is not defined there.

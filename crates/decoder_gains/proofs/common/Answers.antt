@@ -1,6 +1,6 @@
 -- `goodN` is the test of cause N passed_plain, as the definition has it, and `badN` the test failed_plain. Assumes nothing.
 use mathlib.Core.Path.{◌≡◌, refl, ap, ◌∙◌}
-use mathlib.Core.Bool.{Bool, true, false, ◌&&◌}
+use mathlib.Core.Bool.{Bool, true, ◌&&◌}
 use mathlib.Core.List.{[], ◌∷◌}
 use lib.Ieee.{Float, binary64, of_bits, round, div, lt, le}
 use Rattle.answers.specs.Answer.{rule, first_cause, built_by}

@@ -3,6 +3,3 @@ use Rattle.pilot_scan.proofs.scan.Given as goal
 
 abbrev pub invariant-loop-i : goal.invariant-loop-i
 invariant-loop-i l = FiniteFrom l.pilot l.i
-
-abbrev pub decreases-loop-i : goal.decreases-loop-i
-decreases-loop-i l = l.i

@@ -1,12 +1,12 @@
 use Prim.Native.Nat.{ℕ}
-use mathlib.Core.Path.{◌≡◌, refl, sym, ap, ◌∙◌}
-use mathlib.Core.Bool.{true, not}
+use mathlib.Core.Path.{◌≡◌, refl, sym, ◌∙◌}
+use mathlib.Core.Bool.{true}
 use mathlib.Core.List.{List, map}
 use borrow.Author.Rules.{rules}
 use lib.ListN.{length, replicate, length-map}
 use lib.Ieee.{Float}
 use Rattle.answers.specs.Answer.{Said, says}
-use Rattle.answers.proofs.Tests.{failed, passed}
+use Rattle.answers.proofs.Causes.{refused_by, accepted_by}
 use Rattle.decoder_record.specs.State.{Pll}
 use Rattle.decoder_record.specs.Records.{pll_of_f32}
 use Rattle.decoder.specs.F32.{f32}
@@ -14,7 +14,7 @@ use Rattle.rack_waiting.proofs.Loops.{constant}
 use Rattle.rack_round.specs.Round.{Queue, waiting_of}
 use Rattle.rack_round.specs.Flat.{queues_of}
 use Rattle.rack_round.proofs.Working.{length_queues}
-use Rattle.rack_round.proofs.Rounds.{Answered, same_queues, answer_is, refused, agree, some, carried_out}
+use Rattle.rack_round.proofs.Rounds.{Answered, same_queues, answer_is, refused, agree, carried_out}
 use Rattle.rack_round.proofs.Wide.{Replied, wides_refused, wides_carried_out}
 use Rattle.decoder_record.specs.declared.pll_f32.StereoPllF32.{StereoPllF32}
 use Rattle.rack_waiting.specs.declared.Waiting.{Waiting}
@@ -42,17 +42,17 @@ module _ (number allowance : ℕ) (t : List Float) (decoders : List StereoPllF32
   replied : Replied number allowance t ds (queues_of ws flat) s
   replied = record { queues = eight_queues; answer = answer_is answered }
 
-pub returns-then-not-is_accepted : goal.returns-then-not-is_accepted
-returns-then-not-is_accepted c =
+pub returns-then-is_err : goal.returns-then-is_err
+returns-then-is_err c =
     let a = c.args in
     let flat : Queue Float = record { mpx = a.mpx.now; pilot = a.pilot.now; sum = a.sum.now; difference = a.difference.now } in
     let eight : length a.decoders ≡ 8 = search rules in
     let waits : length a.waiting ≡ 8 = search rules in
     let i = answered a.number a.allowance a.table.now a.decoders a.waiting flat (says c.round_answer-answer.result) c.parts-cut.result eight waits c.parts-cut.ensures c.round_answer-answer.ensures in
-    let h = failed c.is_accepted.ensures (ap not c.if-not-is_accepted.true) in
+    let h = refused_by c.round_answer-answer.result c.is_err.ensures.value c.if-is_err.true in
     record {
-      fact_1 = refused i h (none_taken a.number a.allowance a.table.now a.decoders a.waiting flat (says c.round_answer-answer.result) c.parts-cut.result eight waits c.parts-cut.ensures c.round_answer-answer.ensures);
-      fact_2 = wides_refused (replied a.number a.allowance a.table.now a.decoders a.waiting flat (says c.round_answer-answer.result) c.parts-cut.result eight waits c.parts-cut.ensures c.round_answer-answer.ensures) h;
+      leaves = refused i h (none_taken a.number a.allowance a.table.now a.decoders a.waiting flat (says c.round_answer-answer.result) c.parts-cut.result eight waits c.parts-cut.ensures c.round_answer-answer.ensures);
+      wide = wides_refused (replied a.number a.allowance a.table.now a.decoders a.waiting flat (says c.round_answer-answer.result) c.parts-cut.result eight waits c.parts-cut.ensures c.round_answer-answer.ensures) h;
     }
 
 pub work-worked-requires : goal.work-worked-requires
@@ -62,9 +62,9 @@ work-worked-requires c =
     let eight : length a.decoders ≡ 8 = search rules in
     let waits : length a.waiting ≡ 8 = search rules in
     let i = answered a.number a.allowance a.table.now a.decoders a.waiting flat (says c.round_answer-answer.result) c.parts-cut.result eight waits c.parts-cut.ensures c.round_answer-answer.ensures in
-    let h = passed c.is_accepted.ensures (ap not c.if-not-is_accepted.false) in
+    let h = accepted_by c.round_answer-answer.result c.is_err.ensures.value c.if-is_err.false in
     let g = agree i h refl in
-    record { fact_1 = g.0; fact_2 = g.1 }
+    record { number = g.0; agreed = g.1 }
 
 pub returns : goal.returns
 returns c =
@@ -73,9 +73,9 @@ returns c =
     let eight : length a.decoders ≡ 8 = search rules in
     let waits : length a.waiting ≡ 8 = search rules in
     let i = answered a.number a.allowance a.table.now a.decoders a.waiting flat (says c.round_answer-answer.result) c.parts-cut.result eight waits c.parts-cut.ensures c.round_answer-answer.ensures in
-    let h = passed c.is_accepted.ensures (ap not c.if-not-is_accepted.false) in
+    let h = accepted_by c.round_answer-answer.result c.is_err.ensures.value c.if-is_err.false in
     let w = c.work-worked.ensures in
     record {
-      fact_1 = carried_out i h refl c.taken.ensures w.fact_1;
-      fact_2 = wides_carried_out (replied a.number a.allowance a.table.now a.decoders a.waiting flat (says c.round_answer-answer.result) c.parts-cut.result eight waits c.parts-cut.ensures c.round_answer-answer.ensures) h (same_queues i) w.fact_2;
+      leaves = carried_out i h refl c.taken.ensures w.leaves;
+      wide = wides_carried_out (replied a.number a.allowance a.table.now a.decoders a.waiting flat (says c.round_answer-answer.result) c.parts-cut.result eight waits c.parts-cut.ensures c.round_answer-answer.ensures) h (same_queues i) w.wide;
     }

@@ -5,7 +5,7 @@ use borrow.Author.Rules.{rules}
 use lib.ListN.{length, replicate, length-map}
 use lib.IntN.{ℤ}
 use Rattle.answers.specs.Answer.{Said, says}
-use Rattle.answers.proofs.Tests.{failed, passed}
+use Rattle.answers.proofs.Causes.{refused_by, accepted_by}
 use Rattle.decoder_record.specs.State.{Pll}
 use Rattle.decoder_record_q15.specs.Records.{pll_of_q15}
 use Rattle.decoder_record_q15.specs.Fit.{fit_q15}
@@ -14,8 +14,8 @@ use Rattle.rack_waiting.proofs.Loops.{constant}
 use Rattle.rack_round.specs.Round.{Queue, waiting_of}
 use Rattle.rack_round.specs.Flat.{queues_of}
 use Rattle.rack_round.proofs.Working.{length_queues}
-use Rattle.rack_round.proofs.Rounds.{Answered, refused, agree, some, carried_out}
-use mathlib.Core.Bool.{Bool, not}
+use Rattle.rack_round.proofs.Rounds.{Answered, refused, agree, carried_out}
+use mathlib.Core.Bool.{Bool}
 use Rattle.decoder_record_q15.specs.declared.pll_q15.StereoPllQ15.{StereoPllQ15}
 use Rattle.rack_waiting.specs.declared.Waiting.{Waiting}
 use Rattle.rack_waiting.specs.Waiting.{parts_of, round_says}
@@ -39,14 +39,14 @@ module _ (number allowance : ℕ) (t : List ℤ) (decoders : List StereoPllQ15) 
   none_taken : replicate {A = ℕ} 8 0 ≡ map (λ (q : Queue ℤ). 0) (queues_of ws flat)
   none_taken = constant {B = ℕ} 0 8 (queues_of ws flat) (length_queues ws flat ∙ waits)
 
-pub returns-then-not-is_accepted : goal.returns-then-not-is_accepted
-returns-then-not-is_accepted c =
+pub returns-then-is_err : goal.returns-then-is_err
+returns-then-is_err c =
     let a = c.args in
     let flat : Queue ℤ = record { mpx = a.mpx.now; pilot = a.pilot.now; sum = a.sum.now; difference = a.difference.now } in
     let eight : length a.decoders ≡ 8 = search rules in
     let waits : length a.waiting ≡ 8 = search rules in
     let i = answered a.number a.allowance a.table.now a.decoders a.waiting flat (says c.round_answer-answer.result) c.fit_records.result c.parts-cut.result eight waits c.fit_records.ensures c.parts-cut.ensures c.round_answer-answer.ensures in
-    refused i (failed c.is_accepted.ensures (ap not c.if-not-is_accepted.true)) (none_taken a.number a.allowance a.table.now a.decoders a.waiting flat (says c.round_answer-answer.result) c.fit_records.result c.parts-cut.result eight waits c.fit_records.ensures c.parts-cut.ensures c.round_answer-answer.ensures)
+    refused i (refused_by c.round_answer-answer.result c.is_err.ensures.value c.if-is_err.true) (none_taken a.number a.allowance a.table.now a.decoders a.waiting flat (says c.round_answer-answer.result) c.fit_records.result c.parts-cut.result eight waits c.fit_records.ensures c.parts-cut.ensures c.round_answer-answer.ensures)
 
 pub work-next-requires : goal.work-next-requires
 work-next-requires c =
@@ -55,8 +55,8 @@ work-next-requires c =
     let eight : length a.decoders ≡ 8 = search rules in
     let waits : length a.waiting ≡ 8 = search rules in
     let i = answered a.number a.allowance a.table.now a.decoders a.waiting flat (says c.round_answer-answer.result) c.fit_records.result c.parts-cut.result eight waits c.fit_records.ensures c.parts-cut.ensures c.round_answer-answer.ensures in
-    let g = agree i (passed c.is_accepted.ensures (ap not c.if-not-is_accepted.false)) (fit_places a.number a.allowance a.table.now a.decoders a.waiting flat (says c.round_answer-answer.result) c.fit_records.result c.parts-cut.result eight waits c.fit_records.ensures c.parts-cut.ensures c.round_answer-answer.ensures) in
-    record { fact_1 = g.0; fact_2 = g.1 }
+    let g = agree i (accepted_by c.round_answer-answer.result c.is_err.ensures.value c.if-is_err.false) (fit_places a.number a.allowance a.table.now a.decoders a.waiting flat (says c.round_answer-answer.result) c.fit_records.result c.parts-cut.result eight waits c.fit_records.ensures c.parts-cut.ensures c.round_answer-answer.ensures) in
+    record { number = g.0; agreed = g.1 }
 
 pub returns : goal.returns
 returns c =
@@ -65,4 +65,4 @@ returns c =
     let eight : length a.decoders ≡ 8 = search rules in
     let waits : length a.waiting ≡ 8 = search rules in
     let i = answered a.number a.allowance a.table.now a.decoders a.waiting flat (says c.round_answer-answer.result) c.fit_records.result c.parts-cut.result eight waits c.fit_records.ensures c.parts-cut.ensures c.round_answer-answer.ensures in
-    carried_out i (passed c.is_accepted.ensures (ap not c.if-not-is_accepted.false)) (fit_places a.number a.allowance a.table.now a.decoders a.waiting flat (says c.round_answer-answer.result) c.fit_records.result c.parts-cut.result eight waits c.fit_records.ensures c.parts-cut.ensures c.round_answer-answer.ensures) c.taken.ensures c.work-next.ensures
+    carried_out i (accepted_by c.round_answer-answer.result c.is_err.ensures.value c.if-is_err.false) (fit_places a.number a.allowance a.table.now a.decoders a.waiting flat (says c.round_answer-answer.result) c.fit_records.result c.parts-cut.result eight waits c.fit_records.ensures c.parts-cut.ensures c.round_answer-answer.ensures) c.taken.ensures c.work-next.ensures

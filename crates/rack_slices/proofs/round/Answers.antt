@@ -1,12 +1,12 @@
 use mathlib.Core.Path.{◌≡◌, refl, sym, ap, ◌∙◌}
-use mathlib.Core.Bool.{true, not}
+use mathlib.Core.Bool.{true}
 use mathlib.Core.List.{List, map}
 use borrow.Author.Rules.{rules}
 use lib.ListN.{length, replicate, length-map}
 use lib.Ieee.{Float}
 use Rattle.answers.specs.Answer.{Said, says}
 use Rattle.answers.proofs.Passes.{length_samples}
-use Rattle.answers.proofs.Tests.{failed, passed}
+use Rattle.answers.proofs.Causes.{refused_by, accepted_by}
 use Rattle.decoder_record.specs.State.{Pll}
 use Rattle.decoder_record.specs.Records.{pll_of_f32}
 use Rattle.decoder.specs.F32.{f32}
@@ -15,7 +15,7 @@ use Rattle.rack_round.specs.Round.{waiting_of}
 use Rattle.rack_round.proofs.Wide.{Replied, wides_refused, wides_carried_out}
 use Rattle.rack_slices_round.specs.Slices.{addresses_of, Slices, queues_at}
 use Rattle.rack_slices_round.proofs.Lending.{slices_in}
-use Rattle.rack_slices_round.proofs.Rounds.{Answered, answer_is, refused, even, some, carried_out}
+use Rattle.rack_slices_round.proofs.Rounds.{Answered, answer_is, refused, even, carried_out}
 use Prim.Native.Nat.{ℕ}
 use Rattle.decoder_record.specs.declared.pll_f32.StereoPllF32.{StereoPllF32}
 use Rattle.rack_waiting.specs.declared.Waiting.{Waiting}
@@ -37,16 +37,16 @@ module _ (number allowance : ℕ) (t : List Float) (decoders : List StereoPllF32
   replied : Replied number allowance t ds (queues_at s) said
   replied = record { queues = length_samples 8 _; answer = answer_is answered }
 
-pub returns-then-not-is_accepted : goal.returns-then-not-is_accepted
-returns-then-not-is_accepted c =
+pub returns-then-is_err : goal.returns-then-is_err
+returns-then-is_err c =
     let a = c.args in
     let l = c.lengths-waiting in
     let s : Slices Float = slices_in a.mpx.now a.pilot.now a.sum.now a.difference.now in
     let eight : length a.decoders ≡ 8 = search rules in
-    let h = failed c.is_accepted.ensures (ap not c.if-not-is_accepted.true) in
+    let h = refused_by c.round_answer-answer.result c.is_err.ensures.value c.if-is_err.true in
     record {
-      fact_1 = (refused (answered a.number a.allowance a.table.now a.decoders s (says c.round_answer-answer.result) l.result eight l.ensures.0 c.round_answer-answer.ensures) h (ap (map (λ x. x.now)) l.ensures.1) (ap (map (λ x. x.now)) l.ensures.2), ap addresses_of l.ensures.1, ap addresses_of l.ensures.2);
-      fact_2 = wides_refused (replied a.number a.allowance a.table.now a.decoders s (says c.round_answer-answer.result) l.result eight l.ensures.0 c.round_answer-answer.ensures) h;
+      leaves = (refused (answered a.number a.allowance a.table.now a.decoders s (says c.round_answer-answer.result) l.result eight l.ensures.0 c.round_answer-answer.ensures) h (ap (map (λ x. x.now)) l.ensures.1) (ap (map (λ x. x.now)) l.ensures.2), ap addresses_of l.ensures.1, ap addresses_of l.ensures.2);
+      wide = wides_refused (replied a.number a.allowance a.table.now a.decoders s (says c.round_answer-answer.result) l.result eight l.ensures.0 c.round_answer-answer.ensures) h;
     }
 
 pub work-worked-requires : goal.work-worked-requires
@@ -59,8 +59,8 @@ work-worked-requires c =
     let read : Slices Float = slices_in a.mpx.now a.pilot.now l.new.sum l.new.difference in
     let same : read ≡ s = λ j. record { mpx = s.mpx; pilot = s.pilot; sum = map (λ x. x.now) (l.ensures.1 j); difference = map (λ x. x.now) (l.ensures.2 j) } in
     let i = answered a.number a.allowance a.table.now a.decoders s (says c.round_answer-answer.result) l.result eight l.ensures.0 c.round_answer-answer.ensures in
-    let e = even i (passed c.is_accepted.ensures (ap not c.if-not-is_accepted.false)) refl in
-    record { fact_1 = e.0; fact_2 = e.1; fact_3 = i.waits ∙ ap (λ (z : Slices Float). map waiting_of (queues_at z)) (sym same) }
+    let e = even i (accepted_by c.round_answer-answer.result c.is_err.ensures.value c.if-is_err.false) refl in
+    record { number = e.0; even = e.1; waiting = i.waits ∙ ap (λ (z : Slices Float). map waiting_of (queues_at z)) (sym same) }
 
 pub returns : goal.returns
 returns c =
@@ -71,9 +71,9 @@ returns c =
     -- the slices once their lengths are read
     let read : Slices Float = slices_in a.mpx.now a.pilot.now l.new.sum l.new.difference in
     let same : read ≡ s = λ j. record { mpx = s.mpx; pilot = s.pilot; sum = map (λ x. x.now) (l.ensures.1 j); difference = map (λ x. x.now) (l.ensures.2 j) } in
-    let h = passed c.is_accepted.ensures (ap not c.if-not-is_accepted.false) in
+    let h = accepted_by c.round_answer-answer.result c.is_err.ensures.value c.if-is_err.false in
     let w = c.work-worked.ensures in
     record {
-      fact_1 = (carried_out (answered a.number a.allowance a.table.now a.decoders s (says c.round_answer-answer.result) l.result eight l.ensures.0 c.round_answer-answer.ensures) {s' = read} h same c.taken.ensures w.fact_1.0, w.fact_1.1 ∙ ap addresses_of l.ensures.1, w.fact_1.2 ∙ ap addresses_of l.ensures.2);
-      fact_2 = wides_carried_out (replied a.number a.allowance a.table.now a.decoders s (says c.round_answer-answer.result) l.result eight l.ensures.0 c.round_answer-answer.ensures) h (ap (λ (z : Slices Float). queues_at z) same) w.fact_2;
+      leaves = (carried_out (answered a.number a.allowance a.table.now a.decoders s (says c.round_answer-answer.result) l.result eight l.ensures.0 c.round_answer-answer.ensures) {s' = read} h same c.taken.ensures w.leaves.0, w.leaves.1 ∙ ap addresses_of l.ensures.1, w.leaves.2 ∙ ap addresses_of l.ensures.2);
+      wide = wides_carried_out (replied a.number a.allowance a.table.now a.decoders s (says c.round_answer-answer.result) l.result eight l.ensures.0 c.round_answer-answer.ensures) h (ap (λ (z : Slices Float). queues_at z) same) w.wide;
     }

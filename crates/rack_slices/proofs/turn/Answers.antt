@@ -17,8 +17,8 @@ returns c =
     let q : Queue Float = record { mpx = a.mpx.now; pilot = a.pilot.now; sum = a.sum.now; difference = a.difference.now } in
     let e = sub-zero c.least-n.result ∙ c.least-n.ensures in
     record {
-      fact_1 = turn_is f32 a.table.now a.share (pll_of_f32 a.d) q (c.least-n.result - 0)
+      leaves = turn_is f32 a.table.now a.share (pll_of_f32 a.d) q (c.least-n.result - 0)
           {s = said_in b.result.answer} {vy = b.new.sum} {vz = b.new.difference} e
           c.requires.1 c.requires.2 b.auto.sum b.auto.difference b.ensures.0;
-      fact_2 = turn_wide_lem a.table.now a.share (pll_of_f32 a.d) q (c.least-n.result - 0) e c.wide_of.ensures b.ensures.1;
+      wide = turn_wide_lem a.table.now a.share (pll_of_f32 a.d) q (c.least-n.result - 0) e c.wide_of.ensures b.ensures.1;
     }

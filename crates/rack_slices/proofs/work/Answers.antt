@@ -1,19 +1,11 @@
-use Prim.Native.Nat.{ℕ, ◌-◌, ◌*◌, ◌≤◌, ◌<◌}
 use mathlib.Core.Path.{refl, ◌∙◌}
-use mathlib.Core.List.{map}
-use native.Mathlib.Omega.{arith}
 use borrow.Author.Rules.{rules}
-use mir.Syntax.{w64}
-use mir.Val.{Fits}
-use lib.ListN.{length, length-map}
+use lib.ListN.{length-map}
 use Rattle.answers.proofs.Passes.{length_samples}
 use Rattle.decoder_record.specs.Records.{pll_of_f32}
-use Rattle.decoder.specs.F32.{f32}
 use Rattle.rack.proofs.Absent.{absent}
-use Rattle.rack_round.proofs.Parts.{scaled, small, falls, next_fits}
-use Rattle.rack_round.proofs.Wide.{Wides, wides_start, wides_end}
-use Rattle.rack_slices_round.specs.Slices.{queues_at}
-use Rattle.rack_slices_round.proofs.Lending.{slices_in, Lending, lending_start, sums_kept, differences_kept, lending_end, lending_past, in_mpx, in_pilot, in_sum, in_difference, lent_long, lending_next}
+use Rattle.rack_round.proofs.Wide.{wides_start, wides_end}
+use Rattle.rack_slices_round.proofs.Lending.{lending_start, lending_end, lending_past, in_mpx, in_pilot, in_sum, in_difference, lent_long, lending_next}
 use Rattle.rack_slices_round.proofs.Wide.{wides_turned, wides_passed}
 use Rattle.rack_slices.proofs.work.Goals.{then-w-gt0, else-w-gt0}
 use Rattle.rack_slices.proofs.work.Goals as goal
@@ -21,7 +13,7 @@ use Rattle.rack_slices.proofs.work.Goals as goal
 pub loop-k-init : goal.loop-k-init
 loop-k-init c =
     let p = c.requires in
-    (lending_start (search rules) p.fact_1 p.fact_2 p.fact_3, wides_start (length-map c.args.decoders pll_of_f32 ∙ search rules) (length_samples 8 _))
+    (lending_start (search rules) p.number p.even p.waiting, wides_start (length-map c.args.decoders pll_of_f32 ∙ search rules) (length_samples 8 _))
 
 pub bounds-mpx-k : goal.bounds-mpx-k
 bounds-mpx-k c = in_mpx c.loop-k.invariant.0 c.loop-k-test.true c.if-w-gt0.true
@@ -50,8 +42,8 @@ loop-k-preserved c =
     let h = c.loop-k-test.true in
     elim c.if-w-gt0.branch [
       | then-w-gt0 w ↦ (
-        lending_next i.0 h w.if-w-gt0.true absent w.turn-turned.result.decoder _ _ w.turn-turned.ensures.fact_1 refl refl w.sum-is w.difference-is w.next-is,
-        wides_turned i.1 i.0 h absent w.if-w-gt0.true w.turn-turned.ensures.fact_2 w.wide-is,
+        lending_next i.0 h w.if-w-gt0.true absent w.turn-turned.result.decoder _ _ w.turn-turned.ensures.leaves refl refl w.sum-is w.difference-is w.next-is,
+        wides_turned i.1 i.0 h absent w.if-w-gt0.true w.turn-turned.ensures.wide w.wide-is,
       )
       | else-w-gt0 w ↦ (
         lending_past i.0 h absent w.if-w-gt0.false w.sum-is w.difference-is w.next-is,
@@ -63,4 +55,4 @@ pub returns : goal.returns
 returns c =
     let i = c.loop-k.invariant in
     let e = c.loop-k-test.false in
-    record { fact_1 = (lending_end i.0 e, i.0.sums_at, i.0.differences_at); fact_2 = wides_end i.1 _ i.0.working.upto e }
+    record { leaves = (lending_end i.0 e, i.0.sums_at, i.0.differences_at); wide = wides_end i.1 _ i.0.working.upto e }

@@ -1,17 +1,9 @@
-use Prim.Native.Nat.{◌-◌, ◌≤◌}
-use mathlib.Core.Path.{refl, sym, ◌∙◌}
-use native.Mathlib.Omega.{arith}
-use Rattle.answers.proofs.Samples.{Filled, filled_start, filled_next, filled_end}
+use Rattle.answers.proofs.Samples.{Filled}
 use Rattle.rack_round.specs.Round.{waiting_of}
 use Rattle.rack_slices_round.specs.Slices.{queue_at}
 use Rattle.rack_slices_round.proofs.Lending.{slices_in}
-use Rattle.rack_slices_round.proofs.Places.{long_at}
-use Rattle.rack_slices_round.proofs.Within.{map_samples}
 use Rattle.rack_slices_q15.proofs.lengths.Given as goal
 
 abbrev pub invariant-loop-k : goal.invariant-loop-k
 invariant-loop-k l =
-    (l.k ≤ 8) × Filled 8 (λ i. waiting_of (queue_at (slices_in l.mpx l.pilot l.sum l.difference) i)) l.k l.waiting
-
-abbrev pub decreases-loop-k : goal.decreases-loop-k
-decreases-loop-k l = 8 - l.k
+    Filled 8 (λ i. waiting_of (queue_at (slices_in l.mpx l.pilot l.sum l.difference) i)) l.k l.waiting

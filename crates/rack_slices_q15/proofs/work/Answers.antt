@@ -1,20 +1,14 @@
-use Prim.Native.Nat.{◌-◌, ◌<◌}
 use mathlib.Core.Path.{refl}
-use native.Mathlib.Omega.{arith}
 use borrow.Author.Rules.{rules}
-use lib.ListN.{length}
-use Rattle.decoder_record_q15.specs.Records.{pll_of_q15}
-use Rattle.decoder_q15.specs.Q15.{q15}
 use Rattle.rack_q15.proofs.Absent.{absent}
-use Rattle.rack_round.proofs.Parts.{scaled, small, falls, next_fits}
-use Rattle.rack_slices_round.proofs.Lending.{Lending, lending_start, sums_kept, differences_kept, lending_end, lending_past, in_mpx, in_pilot, in_sum, in_difference, lent_long, lending_next}
+use Rattle.rack_slices_round.proofs.Lending.{lending_start, lending_end, lending_past, in_mpx, in_pilot, in_sum, in_difference, lent_long, lending_next}
 use Rattle.rack_slices_q15.proofs.work.Goals.{then-w-gt0, else-w-gt0}
 use Rattle.rack_slices_q15.proofs.work.Goals as goal
 
 pub loop-k-init : goal.loop-k-init
 loop-k-init c =
     let p = c.requires in
-    lending_start (search rules) p.fact_1 p.fact_2 p.fact_3
+    lending_start (search rules) p.number p.even p.waiting
 
 pub bounds-mpx-k : goal.bounds-mpx-k
 bounds-mpx-k c = in_mpx c.loop-k.invariant c.loop-k-test.true c.if-w-gt0.true

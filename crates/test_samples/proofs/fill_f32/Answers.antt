@@ -1,16 +1,16 @@
--- `test_samples::fill_f32` meets its contract. The measure is how many samples are left. Assumes nothing.
+-- `test_samples::fill_f32` meets its contract. Assumes nothing.
 use mathlib.Core.Path.{refl}
 use native.Mathlib.Omega.{arith}
 use Rattle.answers.proofs.Samples.{filled_start, filled_next, filled_end}
 use Rattle.test_samples.proofs.fill_f32.Goals as goal
 
 pub loop-i-init : goal.loop-i-init
-loop-i-init c = (omega arith, filled_start refl)
+loop-i-init c = filled_start refl
 
 pub loop-i-preserved : goal.loop-i-preserved
 loop-i-preserved c =
     let w = c.loop-i.invariant in
-    (omega (arith, w.1.size), filled_next w.1 (omega (arith, w.1.size)) c.sample_f32.ensures)
+    filled_next w (omega (arith, w.size)) c.sample_f32.ensures
 
 pub returns : goal.returns
-returns c = let w = c.loop-i.invariant in filled_end w.1 w.0 (omega (arith, w.1.size))
+returns c = let w = c.loop-i.invariant in filled_end w c.loop-i.auto.i-end (omega (arith, w.size))

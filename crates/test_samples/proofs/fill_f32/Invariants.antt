@@ -1,11 +1,7 @@
-use Prim.Native.Nat.{◌-◌, ◌≤◌}
 use lib.ListN.{length}
 use Rattle.answers.proofs.Samples.{Filled}
 use Rattle.test_samples.specs.Samples.{sample_f32_of}
 use Rattle.test_samples.proofs.fill_f32.Given as goal
 
 abbrev pub invariant-loop-i : goal.invariant-loop-i
-invariant-loop-i l = (l.i ≤ length l.initial.out) × Filled (length l.initial.out) (λ k. sample_f32_of l.spec k) l.i l.out
-
-abbrev pub decreases-loop-i : goal.decreases-loop-i
-decreases-loop-i l = length l.initial.out - l.i
+invariant-loop-i l = Filled (length l.initial.out) (λ k. sample_f32_of l.spec k) l.i l.out

@@ -6,4 +6,4 @@ use Rattle.c_decoder.proofs.in_f32.pescrondilu_f32_block.Goals as goal
 pub returns : goal.returns
 returns c =
     let learnt = rw c.taken.ensures at c.block-reply.ensures in
-    record { fact_1 = rw (c.code_of.ensures, c.answer_of.ensures, c.given.ensures) (ap coded_block learnt.0); fact_2 = c.wide_of.ensures ∙ ap number_in learnt.1 }
+    record { leaves = rw (c.code_of.ensures, c.answer_of.ensures, c.given.ensures) (ap coded_block learnt.0); wide = c.wide_of.ensures ∙ ap number_in learnt.1 }

@@ -15,10 +15,10 @@ returns c =
     let flat : Queue Float = record { mpx = a.mpx.now; pilot = a.pilot.now; sum = a.sum.now; difference = a.difference.now } in
     let e = c.all_taken.ensures in
     record {
-      fact_1 = rw (c.code_of.ensures, c.all_given.ensures)
+      leaves = rw (c.code_of.ensures, c.all_given.ensures)
           (ap (coded_round a.rack.number)
-          (c.round-reply.ensures.fact_1
+          (c.round-reply.ensures.leaves
           ∙ ap (λ (ds : List (Pll Float)). flat_of f32 a.rack.number a.allowance a.table.now ds a.waiting.decoders flat) e));
-      fact_2 = c.round-reply.ensures.fact_2
+      wide = c.round-reply.ensures.wide
           ∙ ap (λ (ds : List (Pll Float)). round_wide a.rack.number a.allowance a.table.now ds (queues_of a.waiting.decoders flat)) e;
     }

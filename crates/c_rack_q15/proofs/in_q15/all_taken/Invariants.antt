@@ -1,18 +1,11 @@
-use Prim.Native.Nat.{◌-◌, ◌≤◌}
-use mathlib.Core.Path.{◌≡◌, refl, sym, ◌∙◌}
-use mathlib.Core.List.{map, map-map}
-use native.Mathlib.Omega.{arith}
-use borrow.Author.Rules.{rules}
-use lib.ListN.{length, take, length-map, length-set}
+use mathlib.Core.Path.{◌≡◌}
+use mathlib.Core.List.{map}
+use lib.ListN.{length, take}
 use Rattle.decoder_record_q15.specs.Records.{pll_of_q15}
 use Rattle.c_decoder.specs.Coded.{taken_of}
 use Rattle.c_decoder_q15.specs.CodedQ15.{decoder_of_q15}
-use Rattle.rack_waiting.proofs.Loops.{mapped_end, converted_next}
 use Rattle.c_rack_q15.proofs.in_q15.all_taken.Given as goal
 
 abbrev pub invariant-loop-k : goal.invariant-loop-k
 invariant-loop-k l =
-    (l.k ≤ 8) × (length l.decoders ≡ 8) × (length l.records ≡ 8) × (take l.k (map pll_of_q15 l.records) ≡ map (λ d. taken_of (decoder_of_q15 d)) (take l.k l.decoders))
-
-abbrev pub decreases-loop-k : goal.decreases-loop-k
-decreases-loop-k l = 8 - l.k
+    (length l.decoders ≡ 8) × (length l.records ≡ 8) × (take l.k (map pll_of_q15 l.records) ≡ map (λ d. taken_of (decoder_of_q15 d)) (take l.k l.decoders))

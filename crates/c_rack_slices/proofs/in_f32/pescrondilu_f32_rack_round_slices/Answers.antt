@@ -16,12 +16,12 @@ returns c =
     let r = c.round-reply.ensures in
     let e = c.all_taken.ensures in
     record {
-      fact_1 = (
+      leaves = (
         rw (c.code_of.ensures, c.all_given.ensures)
             (ap (coded_slices a.rack.number)
-            (r.fact_1.0 ∙ ap (λ (ds : List (Pll Float)). slices_of f32 a.rack.number a.allowance a.table.now ds s) e)),
-        r.fact_1.1,
-        r.fact_1.2,
+            (r.leaves.0 ∙ ap (λ (ds : List (Pll Float)). slices_of f32 a.rack.number a.allowance a.table.now ds s) e)),
+        r.leaves.1,
+        r.leaves.2,
       );
-      fact_2 = r.fact_2 ∙ ap (λ (ds : List (Pll Float)). round_wide a.rack.number a.allowance a.table.now ds (queues_at s)) e;
+      wide = r.wide ∙ ap (λ (ds : List (Pll Float)). round_wide a.rack.number a.allowance a.table.now ds (queues_at s)) e;
     }

@@ -6,4 +6,4 @@ use Rattle.c_summary.proofs.in_f32.pescrondilu_f32_summary_block.Goals as goal
 pub returns : goal.returns
 returns c =
     let learnt = rw (c.taken-decoder.ensures, c.taken-summary.ensures) at c.block-reply.ensures in
-    record { fact_1 = rw (c.code_of.ensures, c.answer_of.ensures, c.given.ensures, c.given-2.ensures) (ap coded_summary learnt.fact_1); fact_2 = c.wide_of.ensures ∙ ap number_in learnt.fact_2 }
+    record { leaves = rw (c.code_of.ensures, c.answer_of.ensures, c.given.ensures, c.given-2.ensures) (ap coded_summary learnt.leaves); wide = c.wide_of.ensures ∙ ap number_in learnt.count }

@@ -1,12 +1,9 @@
-use mathlib.Core.Path.{sym, ◌∙◌}
-use Prim.Native.Nat.{◌-◌}
 use native.Mathlib.Omega.{arith}
-use lib.ListN.{length}
 use lib.Ieee.{nan}
 use Rattle.decoder_gains.specs.Gains.{nought}
 use Rattle.decoder.specs.F32.{f32}
 use Rattle.decoder_record.specs.Records.{pll_of_f32}
-use Rattle.decoder.proofs.Loops.{Going, going_start, going_next, going_end, any_default}
+use Rattle.decoder.proofs.Loops.{going_start, going_next, going_end, any_default}
 use Rattle.decoder.proofs.plain.run.Goals as goal
 
 pub loop-i-init : goal.loop-i-init

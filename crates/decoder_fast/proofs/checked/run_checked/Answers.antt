@@ -1,14 +1,11 @@
-use mathlib.Core.Path.{sym, ◌∙◌}
-use Prim.Native.Nat.{◌-◌}
 use native.Mathlib.Omega.{arith}
-use lib.ListN.{length}
 use lib.Ieee.{nan}
 use Rattle.phase.specs.Correction.{is_wide}
 use Rattle.decoder_gains.specs.Gains.{nought}
 use Rattle.decoder.specs.F32.{f32}
 use Rattle.decoder_record.specs.Records.{pll_of_f32}
 use Rattle.decoder.proofs.Loops.{any_default}
-use Rattle.decoder_fast.proofs.Counting.{told, fits_next, Counting, counting_start, counting_next, counting_end}
+use Rattle.decoder_fast.proofs.Counting.{told, fits_next, counting_start, counting_next, counting_end}
 use Rattle.decoder_fast.proofs.checked.run_checked.Goals as goal
 
 pub loop-i-init : goal.loop-i-init
@@ -26,10 +23,10 @@ loop-i-preserved c =
     counting_next f32 is_wide a.table.now a.mpx.now a.pilot.now (pll_of_f32 a.d) c.loop-i.invariant h
     (any_default a.mpx.now c.loop-i.i nan nought h)
     (any_default a.pilot.now c.loop-i.i nan nought (omega (arith, c.requires.0)))
-    c.step_checked-o.ensures.fact_1
-    (told c.loop-i.wide c.step_checked-o.result.wide c.step_checked-o.ensures.fact_2)
+    c.step_checked-o.ensures.leaves
+    (told c.loop-i.wide c.step_checked-o.result.wide c.step_checked-o.ensures.wide)
 
 pub returns : goal.returns
 returns c =
     let it = counting_end f32 is_wide _ _ _ _ c.loop-i.invariant c.loop-i-test.false in
-    record { fact_1 = it.0; fact_2 = it.1 }
+    record { leaves = it.0; wide = it.1 }

@@ -1,18 +1,8 @@
-use mathlib.Core.Path.{sym, ◌∙◌}
-use Prim.Native.Nat.{◌-◌}
-use native.Mathlib.Omega.{arith}
-use lib.ListN.{length}
-use lib.Ieee.{nan}
 use Rattle.phase.specs.Correction.{is_wide}
-use Rattle.decoder_gains.specs.Gains.{nought}
 use Rattle.decoder.specs.F32.{f32}
 use Rattle.decoder_record.specs.Records.{pll_of_f32}
-use Rattle.decoder.proofs.Loops.{any_default}
-use Rattle.decoder_fast.proofs.Counting.{told, fits_next, Counting, counting_start, counting_next, counting_end}
+use Rattle.decoder_fast.proofs.Counting.{Counting}
 use Rattle.decoder_fast.proofs.checked.run_checked.Given as goal
 
 abbrev pub invariant-loop-i : goal.invariant-loop-i
 invariant-loop-i l = Counting f32 is_wide l.table l.mpx l.pilot (pll_of_f32 l.initial.st) l.i l.wide l.sum l.difference (pll_of_f32 l.st)
-
-abbrev pub decreases-loop-i : goal.decreases-loop-i
-decreases-loop-i l = length l.mpx - l.i

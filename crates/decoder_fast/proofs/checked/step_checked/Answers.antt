@@ -16,4 +16,4 @@ returns c =
       heard = c.demodulated-difference.ensures ∙ rw (c.cos_f32-s2.ensures, c.sine_at_twice.ensures);
       advanced = c.advanced.ensures ∙ advanced_is f32 (pll_of_f32 a.d) c.error_of-e.result c.level_of-level.result c.stereo_of-stereo.result c.integrated-integ.ensures (ap (λ (r : Corrected). r.step) c.correction_fast-k.ensures) refl;
     } in
-    record { fact_1 = step_is f32 a.table.now (pll_of_f32 a.d) a.x a.p parts; fact_2 = ap (λ (r : Corrected). not r.quick) c.correction_fast-k.ensures ∙ rw (c.integrated-integ.ensures, parts.error) }
+    record { leaves = step_is f32 a.table.now (pll_of_f32 a.d) a.x a.p parts; wide = ap (λ (r : Corrected). not r.quick) c.correction_fast-k.ensures ∙ rw (c.integrated-integ.ensures, parts.error) }

@@ -10,15 +10,15 @@ use Rattle.decoder_fast.proofs.clean.correction_clean.Goals as goal
 abbrev more : ℕ → Corrected → ℕ
 more w r = w + cond (not r.quick) 1 0
 
-pub returns-in-Step : goal.returns-in-Step
-returns-in-Step c =
+pub returns-in-Some : goal.returns-in-Some
+returns-in-Some c =
     let a = c.args in
-    let s = step_is a.f c.in-Step.step (sym c.correction_quick.ensures ∙ c.in-Step.is) in
+    let s = step_is a.f c.in-Some.step (sym c.correction_quick.ensures ∙ c.in-Some.is) in
     let same : a.wide ≡ a.wide + 0 = omega arith in
-    record { fact_1 = ap (λ (r : Corrected). r.step) s; fact_2 = same ∙ ap (more a.wide) s }
+    record { step = ap (λ (r : Corrected). r.step) s; wide = same ∙ ap (more a.wide) s }
 
-pub returns-in-Wide : goal.returns-in-Wide
-returns-in-Wide c =
+pub returns-in-None : goal.returns-in-None
+returns-in-None c =
     let a = c.args in
-    let w = wide_is a.f c.correction_plain.result (sym c.correction_quick.ensures ∙ c.in-Wide.is) c.correction_plain.ensures in
-    record { fact_1 = c.correction_plain.ensures; fact_2 = ap (more a.wide) w }
+    let w = wide_is a.f c.correction_plain.result (sym c.correction_quick.ensures ∙ c.in-None.is) c.correction_plain.ensures in
+    record { step = c.correction_plain.ensures; wide = ap (more a.wide) w }

@@ -1,15 +1,11 @@
 -- `fast_q15::run` meets its contract. The invariant: the samples before i are done, and the state is fit.
 -- Assumes nothing.
-use Prim.Native.Nat.{◌-◌}
-use mathlib.Core.Path.{◌∙◌}
 use native.Mathlib.Omega.{arith}
-use lib.ListN.{length}
 use mir.Syntax.{w16}
 use Rattle.rounding.proofs.Lin.{back}
 use Rattle.decoder_q15.specs.Q15.{q15}
-use Rattle.decoder_record_q15.specs.Records.{pll_of_q15}
 use Rattle.decoder.proofs.Loops.{going_start, going_end}
-use Rattle.decoder_q15.proofs.Kept.{GoingFit, going_fit_next}
+use Rattle.decoder_q15.proofs.Kept.{going_fit_next}
 use Rattle.decoder_q15.proofs.fast.run.Goals as goal
 
 pub loop-i-init : goal.loop-i-init

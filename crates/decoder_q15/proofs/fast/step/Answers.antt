@@ -1,5 +1,4 @@
 use mathlib.Core.Path.{◌≡◌, ◌∙◌}
-use mathlib.Core.List.{List}
 use lib.IntN.{ℤ, ◌*ℤ◌}
 use mir.Syntax.{w16, w32, w64}
 use mir.Val.{to_z, of_z}
@@ -9,7 +8,6 @@ use lib.Signed.{le_z}
 use mathlib.Core.Bool.{true}
 use Rattle.rounding.proofs.Lin.{back, le_yes_in}
 use Rattle.lookup.specs.Lookup.{sine_at, cos_q15}
-use Rattle.decoder_record.specs.State.{Pll}
 use Rattle.decoder_q15.specs.Q15.{level_q15}
 use Rattle.decoder_record_q15.specs.Records.{pll_of_q15}
 use Rattle.decoder_record_q15.specs.Fit.{guard_of}
@@ -27,12 +25,12 @@ product-requires c =
     lookup_le (c.args.table.now) (sine_at 1 (pll_of_q15 c.args.d).moving.phase) (let it : (to_z w32 (of_z w32 c.interp_q15-s.result) ≡ cos_q15 ((c.args.table.now)) (sine_at 1 ((pll_of_q15 c.args.d)).moving.phase)) = back w32 c.interp_q15-s.result c.interp_q15-s.type_inv ∙ c.interp_q15-s.ensures ∙ rw c.sine_at.ensures in it)
 
 pub level_next-level-requires : goal.level_next-level-requires
-level_next-level-requires c = record { fact_1 = rw (to_z-of_z (let it : Held c.args.d = held _ c.struct_told-1.given in it).beta, to_z-of_z (let it : Held c.args.d = held _ c.struct_told-1.given in it).level) (level_fit_lem (pll_of_q15 c.args.d) c.requires); fact_2 = product_small (c.args.table.now) c.args.p (sine_at 1 (pll_of_q15 c.args.d).moving.phase) c.ranges.p (let it : (to_z w64 (of_z w64 c.product.result) ≡ c.args.p *ℤ cos_q15 ((c.args.table.now)) (sine_at 1 ((pll_of_q15 c.args.d)).moving.phase)) = back w64 c.product.result c.product.type_inv ∙ c.product.ensures ∙ rw (to_z-of_z c.ranges.p, (let it : (to_z w32 (of_z w32 c.interp_q15-s.result) ≡ cos_q15 (c.args.table.now) (sine_at 1 (pll_of_q15 c.args.d).moving.phase)) = back w32 c.interp_q15-s.result c.interp_q15-s.type_inv ∙ c.interp_q15-s.ensures ∙ rw c.sine_at.ensures in it)) in it) }
+level_next-level-requires c = record { level = rw (to_z-of_z (let it : Held c.args.d = held _ c.struct_told-1.given in it).beta, to_z-of_z (let it : Held c.args.d = held _ c.struct_told-1.given in it).level) (level_fit_lem (pll_of_q15 c.args.d) c.requires); product = product_small (c.args.table.now) c.args.p (sine_at 1 (pll_of_q15 c.args.d).moving.phase) c.ranges.p (let it : (to_z w64 (of_z w64 c.product.result) ≡ c.args.p *ℤ cos_q15 ((c.args.table.now)) (sine_at 1 ((pll_of_q15 c.args.d)).moving.phase)) = back w64 c.product.result c.product.type_inv ∙ c.product.ensures ∙ rw (to_z-of_z c.ranges.p, (let it : (to_z w32 (of_z w32 c.interp_q15-s.result) ≡ cos_q15 (c.args.table.now) (sine_at 1 (pll_of_q15 c.args.d).moving.phase)) = back w32 c.interp_q15-s.result c.interp_q15-s.type_inv ∙ c.interp_q15-s.ensures ∙ rw c.sine_at.ensures in it)) in it) }
 
 pub scaled_sum-largest-requires : goal.scaled_sum-largest-requires
 scaled_sum-largest-requires c =
     let k = (let it : Held c.args.d = held _ c.struct_told-1.given in it) in
-    rw (to_z-of_z k.kp, to_z-of_z k.imax) (record { fact_1 = omega arith; fact_2 = guard_room (pll_of_q15 c.args.d) c.requires })
+    rw (to_z-of_z k.kp, to_z-of_z k.imax) (record { error = omega arith; fits = guard_room (pll_of_q15 c.args.d) c.requires })
 
 pub product-requires-2 : goal.product-requires-2
 product-requires-2 c =
@@ -42,15 +40,15 @@ pub gathered-requires : goal.gathered-requires
 gathered-requires c =
     let k = (let it : Held c.args.d = held _ c.struct_told-1.given in it) in
     record {
-      fact_1 = lookup_le (c.args.table.now) (pll_of_q15 c.args.d).moving.phase (let it : to_z w32 (of_z w32 c.interp_q15-c.result) ≡ cos_q15 ((c.args.table.now)) ((pll_of_q15 c.args.d)).moving.phase = back w32 c.interp_q15-c.result c.interp_q15-c.type_inv ∙ c.interp_q15-c.ensures in it);
-      fact_2 = rw (to_z-of_z k.ki) (fitted (pll_of_q15 c.args.d) c.requires).ki;
-      fact_3 = rw (to_z-of_z k.ki, to_z-of_z k.integ) (ki_room (pll_of_q15 c.args.d) c.requires);
+      cosine = lookup_le (c.args.table.now) (pll_of_q15 c.args.d).moving.phase (let it : to_z w32 (of_z w32 c.interp_q15-c.result) ≡ cos_q15 ((c.args.table.now)) ((pll_of_q15 c.args.d)).moving.phase = back w32 c.interp_q15-c.result c.interp_q15-c.type_inv ∙ c.interp_q15-c.ensures in it);
+      gain = rw (to_z-of_z k.ki) (fitted (pll_of_q15 c.args.d) c.requires).ki;
+      fits = rw (to_z-of_z k.ki, to_z-of_z k.integ) (ki_room (pll_of_q15 c.args.d) c.requires);
     }
 
 pub advanced-next-requires : goal.advanced-next-requires
 advanced-next-requires c =
     let k = (let it : Held c.args.d = held _ c.struct_told-1.given in it) in
-    record { fact_1 = c.requires; fact_2 = product_small (c.args.table.now) c.args.p (pll_of_q15 c.args.d).moving.phase c.ranges.p (let it : (to_z w64 (of_z w64 c.product-2.result) ≡ c.args.p *ℤ cos_q15 ((c.args.table.now)) ((pll_of_q15 c.args.d)).moving.phase) = back w64 c.product-2.result c.product-2.type_inv ∙ c.product-2.ensures ∙ rw (to_z-of_z c.ranges.p, (let it : to_z w32 (of_z w32 c.interp_q15-c.result) ≡ cos_q15 (c.args.table.now) (pll_of_q15 c.args.d).moving.phase = back w32 c.interp_q15-c.result c.interp_q15-c.type_inv ∙ c.interp_q15-c.ensures in it)) in it); fact_3 = back w64 c.gathered.result c.gathered.type_inv ∙ c.gathered.ensures ∙ rw (to_z-of_z k.ki, to_z-of_z c.ranges.p, (let it : to_z w32 (of_z w32 c.interp_q15-c.result) ≡ cos_q15 (c.args.table.now) (pll_of_q15 c.args.d).moving.phase = back w32 c.interp_q15-c.result c.interp_q15-c.type_inv ∙ c.interp_q15-c.ensures in it), to_z-of_z k.integ, (let it : (to_z w64 (of_z w64 c.product-2.result) ≡ c.args.p *ℤ cos_q15 (c.args.table.now) (pll_of_q15 c.args.d).moving.phase) = back w64 c.product-2.result c.product-2.type_inv ∙ c.product-2.ensures ∙ rw (to_z-of_z c.ranges.p, (let it : to_z w32 (of_z w32 c.interp_q15-c.result) ≡ cos_q15 (c.args.table.now) (pll_of_q15 c.args.d).moving.phase = back w32 c.interp_q15-c.result c.interp_q15-c.type_inv ∙ c.interp_q15-c.ensures in it)) in it)); fact_4 = rw (let it : (to_z w64 (of_z w64 c.scaled_sum-largest.result) ≡ guard_of ((pll_of_q15 c.args.d)).gains.kp ((pll_of_q15 c.args.d)).gains.imax) = let k = (let it : Held c.args.d = held _ c.struct_told-1.given in it) in back w64 c.scaled_sum-largest.result c.scaled_sum-largest.type_inv ∙ c.scaled_sum-largest.ensures ∙ rw (to_z-of_z k.kp, to_z-of_z k.imax) in it) (order-refl (guard_of (pll_of_q15 c.args.d).gains.kp (pll_of_q15 c.args.d).gains.imax)) }
+    record { fit = c.requires; error = product_small (c.args.table.now) c.args.p (pll_of_q15 c.args.d).moving.phase c.ranges.p (let it : (to_z w64 (of_z w64 c.product-2.result) ≡ c.args.p *ℤ cos_q15 ((c.args.table.now)) ((pll_of_q15 c.args.d)).moving.phase) = back w64 c.product-2.result c.product-2.type_inv ∙ c.product-2.ensures ∙ rw (to_z-of_z c.ranges.p, (let it : to_z w32 (of_z w32 c.interp_q15-c.result) ≡ cos_q15 (c.args.table.now) (pll_of_q15 c.args.d).moving.phase = back w32 c.interp_q15-c.result c.interp_q15-c.type_inv ∙ c.interp_q15-c.ensures in it)) in it); gathered = back w64 c.gathered.result c.gathered.type_inv ∙ c.gathered.ensures ∙ rw (to_z-of_z k.ki, to_z-of_z c.ranges.p, (let it : to_z w32 (of_z w32 c.interp_q15-c.result) ≡ cos_q15 (c.args.table.now) (pll_of_q15 c.args.d).moving.phase = back w32 c.interp_q15-c.result c.interp_q15-c.type_inv ∙ c.interp_q15-c.ensures in it), to_z-of_z k.integ, (let it : (to_z w64 (of_z w64 c.product-2.result) ≡ c.args.p *ℤ cos_q15 (c.args.table.now) (pll_of_q15 c.args.d).moving.phase) = back w64 c.product-2.result c.product-2.type_inv ∙ c.product-2.ensures ∙ rw (to_z-of_z c.ranges.p, (let it : to_z w32 (of_z w32 c.interp_q15-c.result) ≡ cos_q15 (c.args.table.now) (pll_of_q15 c.args.d).moving.phase = back w32 c.interp_q15-c.result c.interp_q15-c.type_inv ∙ c.interp_q15-c.ensures in it)) in it)); largest = rw (let it : (to_z w64 (of_z w64 c.scaled_sum-largest.result) ≡ guard_of ((pll_of_q15 c.args.d)).gains.kp ((pll_of_q15 c.args.d)).gains.imax) = let k = (let it : Held c.args.d = held _ c.struct_told-1.given in it) in back w64 c.scaled_sum-largest.result c.scaled_sum-largest.type_inv ∙ c.scaled_sum-largest.ensures ∙ rw (to_z-of_z k.kp, to_z-of_z k.imax) in it) (order-refl (guard_of (pll_of_q15 c.args.d).gains.kp (pll_of_q15 c.args.d).gains.imax)) }
 
 pub demodulated-requires : goal.demodulated-requires
 demodulated-requires c =

@@ -1,6 +1,5 @@
 use mathlib.Core.Path.{◌≡◌, sym, ◌∙◌}
-use mathlib.Core.Bool.{true, false}
-use mir.Syntax.{w16}
+use mathlib.Core.Bool.{true}
 use mir.Facts.{to_z-of_z}
 use Rattle.decoder_record_q15.specs.Fit.{fit_q15}
 use Rattle.decoder_record_q15.specs.Records.{pll_of_q15}

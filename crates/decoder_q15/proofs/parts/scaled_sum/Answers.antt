@@ -19,16 +19,16 @@ module _ (gain e offset : ℤ) (h : nat_abs e ≤ 2 ^ 30) (room : nat_abs gain *
   sum_fits = let l = product_le in abs_fits w64 (gain *ℤ e +ℤ offset) {k = nat_abs gain * 2 ^ 30 + nat_abs offset} (omega (arith, add_le (gain *ℤ e) offset)) (omega arith)
 
 pub overflow_mul-result : goal.overflow_mul-result
-overflow_mul-result c = let a = c.args in rw (to_z-of_z c.ranges.gain, to_z-of_z c.ranges.e) (product_fits a.gain a.e a.offset c.requires.fact_1 c.requires.fact_2)
+overflow_mul-result c = let a = c.args in rw (to_z-of_z c.ranges.gain, to_z-of_z c.ranges.e) (product_fits a.gain a.e a.offset c.requires.error c.requires.fits)
 
 pub overflow_add-result : goal.overflow_add-result
 overflow_add-result c =
     let a = c.args in
-    rw (to_z-of_z c.ranges.gain, to_z-of_z c.ranges.e, to_z-of_z (product_fits a.gain a.e a.offset c.requires.fact_1 c.requires.fact_2), to_z-of_z c.ranges.offset)
-    (sum_fits a.gain a.e a.offset c.requires.fact_1 c.requires.fact_2)
+    rw (to_z-of_z c.ranges.gain, to_z-of_z c.ranges.e, to_z-of_z (product_fits a.gain a.e a.offset c.requires.error c.requires.fits), to_z-of_z c.ranges.offset)
+    (sum_fits a.gain a.e a.offset c.requires.error c.requires.fits)
 
 pub returns : goal.returns
 returns c =
     let a = c.args in
-    rw (to_z-of_z c.ranges.gain, to_z-of_z c.ranges.e, to_z-of_z (product_fits a.gain a.e a.offset c.requires.fact_1 c.requires.fact_2), to_z-of_z c.ranges.offset)
-    (to_z-of_z (sum_fits a.gain a.e a.offset c.requires.fact_1 c.requires.fact_2))
+    rw (to_z-of_z c.ranges.gain, to_z-of_z c.ranges.e, to_z-of_z (product_fits a.gain a.e a.offset c.requires.error c.requires.fits), to_z-of_z c.ranges.offset)
+    (to_z-of_z (sum_fits a.gain a.e a.offset c.requires.error c.requires.fits))

@@ -6,7 +6,7 @@ use Rattle.decoder_q15.proofs.plain.level_next.Goals as goal
 
 pub level_after-requires : goal.level_after-requires
 level_after-requires c =
-    rw (to_z-of_z c.ranges.beta, to_z-of_z c.ranges.level, to_z-of_z c.ranges.q) (record { fact_1 = c.requires.fact_1; fact_2 = c.requires.fact_2; fact_3 = back w64 c.round_shift.result c.round_shift.type_inv ∙ c.round_shift.ensures ∙ rw (to_z-of_z c.ranges.level) })
+    rw (to_z-of_z c.ranges.beta, to_z-of_z c.ranges.level, to_z-of_z c.ranges.q) (record { level = c.requires.level; product = c.requires.product; rounded = back w64 c.round_shift.result c.round_shift.type_inv ∙ c.round_shift.ensures ∙ rw (to_z-of_z c.ranges.level) })
 
 pub returns : goal.returns
 returns c =

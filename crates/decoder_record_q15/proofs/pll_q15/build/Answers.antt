@@ -11,10 +11,10 @@ use Rattle.answers.specs.Answer.{rule, first_cause, built_by}
 use Rattle.decoder_gains.specs.Gains.{Gains, gains}
 use Rattle.decoder_record.specs.State.{Pll}
 use Rattle.decoder_record_q15.specs.Fit.{fits64, guard_of}
-use Rattle.decoder_record_q15.specs.Fresh.{all_hold, guarded, is_zero, nonzero, fresh_q15, causes_q15, build_q15}
+use Rattle.decoder_record_q15.specs.Fresh.{all_hold, guarded, is_zero, fresh_q15, build_q15}
 use Rattle.decoder_record_q15.specs.Records.{pll_of_q15}
 use Rattle.decoder_record_q15.specs.declared.pll_q15.StereoPllQ15.{StereoPllQ15}
-use Rattle.decoder_record_q15.proofs.Held.{Told, Held, held}
+use Rattle.decoder_record_q15.proofs.Held.{Held, held}
 use Rattle.decoder_record_q15.proofs.pll_q15.build.Goals as goal
 
 zero_is : {z : ℤ} → to_z w64 (of_z w64 z) ≡ z → of_z w64 z ≡ 0 → is_zero z ≡ true

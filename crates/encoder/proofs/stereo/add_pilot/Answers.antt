@@ -6,9 +6,6 @@ use Rattle.encoder.proofs.stereo.add_pilot.Goals as goal
 pub loop-i-init : goal.loop-i-init
 loop-i-init c = (sent_start (omega arith) refl, untouched_start)
 
-pub loop-i-smaller : goal.loop-i-smaller
-loop-i-smaller c = omega (arith, c.loop-i.invariant.0.filled.size)
-
 pub loop-i-preserved : goal.loop-i-preserved
 loop-i-preserved c =
     let k = c.loop-i.invariant in (
@@ -19,4 +16,4 @@ loop-i-preserved c =
 pub returns : goal.returns
 returns c =
     let w = c.loop-i.invariant.0 in let it = sent_end w (omega (arith, w.filled.size)) in
-    record { fact_1 = it.0; fact_2 = it.1 }
+    record { phase = it.0; samples = it.1 }

@@ -1,4 +1,4 @@
-use Rattle.std.proofs.Common.{◌-◌, ◌≤◌, length, get_or}
+use Rattle.std.proofs.Common.{length, get_or}
 use lib.Ieee.{nan}
 use Rattle.encoder.specs.Multiplex.{mixed_of}
 use Rattle.answers.proofs.Samples.{Filled}
@@ -7,9 +7,5 @@ use Rattle.encoder.proofs.stereo.mix.Given as goal
 
 abbrev pub invariant-loop-i : goal.invariant-loop-i
 invariant-loop-i l =
-    (l.i ≤ length l.left)
-    × Filled (length l.left) (λ k. mixed_of l.main (get_or l.left k nan) (get_or l.right k nan) (get_or l.initial.output k nan)) l.i l.output
+    Filled (length l.left) (λ k. mixed_of l.main (get_or l.left k nan) (get_or l.right k nan) (get_or l.initial.output k nan)) l.i l.output
     × Untouched nan l.initial.output l.i l.output
-
-abbrev pub decreases-loop-i : goal.decreases-loop-i
-decreases-loop-i l = length l.left - l.i

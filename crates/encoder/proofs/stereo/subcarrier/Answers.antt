@@ -5,9 +5,6 @@ use Rattle.encoder.proofs.stereo.subcarrier.Goals as goal
 pub loop-i-init : goal.loop-i-init
 loop-i-init c = sent_start (omega arith) refl
 
-pub loop-i-smaller : goal.loop-i-smaller
-loop-i-smaller c = omega (arith, c.loop-i.invariant.filled.size)
-
 pub loop-i-preserved : goal.loop-i-preserved
 loop-i-preserved c =
     let w = c.loop-i.invariant in

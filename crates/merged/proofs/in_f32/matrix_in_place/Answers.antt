@@ -1,10 +1,7 @@
-use Prim.Native.Nat.{◌-◌}
-use mathlib.Core.Path.{refl, sym, ◌∙◌}
-use native.Mathlib.Omega.{arith}
-use lib.ListN.{length}
+use mathlib.Core.Path.{refl}
 use lib.Ieee.{nan}
 use Rattle.matrix.specs.Matrix.{left_f32, right_f32}
-use Rattle.merged.proofs.InPlace.{Turning, turning_start, also_right, turning_next, turning_end}
+use Rattle.merged.proofs.InPlace.{turning_start, also_right, turning_next, turning_end}
 use Rattle.merged.proofs.in_f32.matrix_in_place.Goals as goal
 
 pub loop-i-init : goal.loop-i-init
@@ -15,9 +12,6 @@ bounds-right-i c = also_right left_f32 right_f32 nan _ _ c.loop-i.invariant c.lo
 
 pub bounds-right-i-in-loop-i : goal.bounds-right-i-in-loop-i
 bounds-right-i-in-loop-i c = also_right left_f32 right_f32 nan _ _ c.loop-i.invariant c.loop-i-test.true
-
-pub loop-i-smaller : goal.loop-i-smaller
-loop-i-smaller c = omega (arith, c.loop-i.invariant.lefts.size, c.loop-i-test.true)
 
 pub loop-i-preserved : goal.loop-i-preserved
 loop-i-preserved c = turning_next left_f32 right_f32 nan _ _ c.loop-i.invariant c.loop-i-test.true refl refl

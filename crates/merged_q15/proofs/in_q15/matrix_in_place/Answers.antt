@@ -1,12 +1,10 @@
-use Prim.Native.Nat.{◌-◌}
-use mathlib.Core.Path.{sym, ◌∙◌}
-use native.Mathlib.Omega.{arith}
-use lib.ListN.{length, get_or}
+use mathlib.Core.Path.{◌∙◌}
+use lib.ListN.{get_or}
 use lib.IntN.{pos}
 use mir.Syntax.{w16}
 use Rattle.rounding.proofs.Lin.{back}
 use Rattle.matrix.specs.Matrix.{left_q15, right_q15}
-use Rattle.merged.proofs.InPlace.{Turning, turning_start, also_right, turning_next, turning_end}
+use Rattle.merged.proofs.InPlace.{turning_start, also_right, turning_next, turning_end}
 use Rattle.merged_q15.proofs.in_q15.matrix_in_place.Goals as goal
 
 pub loop-i-init : goal.loop-i-init
@@ -17,9 +15,6 @@ slice_copy_out-d c = also_right left_q15 right_q15 (pos 0) _ _ c.loop-i.invarian
 
 pub bounds-right-i : goal.bounds-right-i
 bounds-right-i c = also_right left_q15 right_q15 (pos 0) _ _ c.loop-i.invariant c.loop-i-test.true
-
-pub loop-i-smaller : goal.loop-i-smaller
-loop-i-smaller c = omega (arith, c.loop-i.invariant.lefts.size, c.loop-i-test.true)
 
 pub loop-i-preserved : goal.loop-i-preserved
 loop-i-preserved c =

@@ -1,7 +1,7 @@
 use Rattle.std.proofs.Common.{sym, ap, ◌∙◌}
 use lib.Ieee.{of_bits}
 use Rattle.phase.specs.Correction.{v_of}
-use Rattle.phase.specs.declared.correction.Quick.TheVariants.{Step}
+use Rattle.std.proofs.Common.{Some}
 use Rattle.phase.proofs.Quick.{Ranged, ranged, sum_real, low_is, quick_by}
 use Rattle.phase.proofs.correction.correction_quick.Goals.{Then-quick_serves}
 use Rattle.phase.proofs.correction.correction_quick.Goals as goal
@@ -18,7 +18,7 @@ pub returns-then-quick_serves : goal.returns-then-quick_serves
 unfolding of_bits
 returns-then-quick_serves c =
     let w = c.wrapping_sub_u32 in
-    ap Step (low_is (served c.before) w.result w.type_inv w.ensures.value) ∙ quick_by c.f32_to_f64.ensures (sym c.quick_serves.ensures ∙ c.if-quick_serves.true)
+    ap Some (low_is (served c.before) w.result w.type_inv w.ensures.value) ∙ quick_by c.f32_to_f64.ensures (sym c.quick_serves.ensures ∙ c.if-quick_serves.true)
 
 pub returns : goal.returns
 unfolding of_bits

@@ -1,4 +1,4 @@
--- `test_lines::line::find` meets its contract. The measure is how many names are left. Assumes nothing.
+-- `test_lines::line::find` meets its contract. Assumes nothing.
 use Prim.Native.Nat.{ℕ, ◌+◌, ◌-◌, ◌*◌, ◌/◌}
 use mathlib.Core.Path.{◌≡◌, sym, ◌∙◌}
 use mathlib.Core.Bool.{Bool}
@@ -17,7 +17,7 @@ said : (line names : List ℕ) (k : ℕ) {r t : Bool} → r ≡ starts_with line
 said line names k e p = let m : 16 * k + 16 - 16 * k ≡ 16 = omega arith in rw m at (sym e ∙ p)
 
 pub loop-k-init : goal.loop-k-init
-loop-k-init c = let n = length c.args.names.now / 16 in let e : n - 0 ≡ n = omega arith in (omega arith, rw e)
+loop-k-init c = let n = length c.args.names.now / 16 in let e : n - 0 ≡ n = omega arith in rw e
 
 pub starts-requires : goal.starts-requires
 starts-requires c = tt
@@ -26,16 +26,17 @@ pub returns-then-starts : goal.returns-then-starts
 returns-then-starts c =
     let o = c.before.before.before.before in
     let a = o.args in
-    sym (found (test a.line.now a.names.now) o.loop-k.k (length a.names.now / 16) (omega arith) (said _ _ o.loop-k.k c.starts.ensures c.if-starts.true)) ∙ o.loop-k.invariant.1
+    sym (found (test a.line.now a.names.now) o.loop-k.k (length a.names.now / 16) (omega arith) (said _ _ o.loop-k.k c.starts.ensures c.if-starts.true)) ∙ o.loop-k.invariant
 
 pub loop-k-preserved : goal.loop-k-preserved
 loop-k-preserved c =
     let o = c.before.before.before.before in
     let a = o.args in
-    (omega arith, sym (passed_by (test a.line.now a.names.now) o.loop-k.k (length a.names.now / 16) (omega arith) (said _ _ o.loop-k.k c.starts.ensures c.if-starts.false)) ∙ o.loop-k.invariant.1)
+    sym (passed_by (test a.line.now a.names.now) o.loop-k.k (length a.names.now / 16) (omega arith) (said _ _ o.loop-k.k c.starts.ensures c.if-starts.false)) ∙ o.loop-k.invariant
 
 pub returns : goal.returns
 returns c =
     let o = c.before in
     let a = o.args in
-    sym (none_left (test a.line.now a.names.now) o.loop-k.k (length a.names.now / 16) (omega arith)) ∙ o.loop-k.invariant.1
+    let all : o.loop-k.k ≡ length a.names.now / 16 = omega arith in
+    sym all ∙ sym (none_left (test a.line.now a.names.now) o.loop-k.k (length a.names.now / 16) (omega arith)) ∙ o.loop-k.invariant

@@ -1,4 +1,4 @@
--- `test_lines::line::is_formed` meets its contract. The measure is how many words are left. Assumes nothing.
+-- `test_lines::line::is_formed` meets its contract. Assumes nothing.
 use mathlib.Core.Path.{◌∙◌}
 use native.Mathlib.Omega.{arith}
 use Rattle.test_lines.proofs.Reading.{stands, standing_next, not_formed, formed_by}
@@ -9,20 +9,18 @@ returns-then-not-has-is_word c =
     let i = c.before in
     let o = i.before.before.before in
     let s = o.args.line.now in
-    not_formed s o.loop-k.at o.loop-k.k o.loop-k.invariant.1 _ (omega arith)
-    (stands s o.loop-k.at o.loop-k.k o.loop-k.invariant.1 _ _ _ i.has.ensures i.is_word.ensures c.if-not-has-is_word.true)
+    not_formed s o.loop-k.at o.loop-k._k o.loop-k.invariant _ (omega arith)
+    (stands s o.loop-k.at o.loop-k._k o.loop-k.invariant _ _ _ i.has.ensures i.is_word.ensures c.if-not-has-is_word.true)
 
 pub loop-k-preserved : goal.loop-k-preserved
 loop-k-preserved c =
     let i = c.before in
     let o = i.before.before.before in
-    let s = o.args.line.now in (
-      omega arith,
-      standing_next s o.loop-k.at o.loop-k.k o.loop-k.invariant.1
-          (stands s o.loop-k.at o.loop-k.k o.loop-k.invariant.1 _ _ _ i.has.ensures i.is_word.ensures c.if-not-has-is_word.false),
-    )
+    let s = o.args.line.now in
+    standing_next s o.loop-k.at o.loop-k._k o.loop-k.invariant
+    (stands s o.loop-k.at o.loop-k._k o.loop-k.invariant _ _ _ i.has.ensures i.is_word.ensures c.if-not-has-is_word.false)
 
 pub returns : goal.returns
 returns c =
     let o = c.before.before in
-    c.has-2.ensures ∙ formed_by o.args.line.now o.loop-k.at o.loop-k.k o.loop-k.invariant.1 _ (omega arith) o.loop-k.invariant.0
+    c.has-2.ensures ∙ formed_by o.args.line.now o.loop-k.at o.loop-k._k o.loop-k.invariant _ (omega arith) (omega arith)

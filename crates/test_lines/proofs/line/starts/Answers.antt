@@ -1,5 +1,4 @@
--- `test_lines::line::starts` meets its contract. The measure is how many bytes of the name are left. Assumes
--- nothing.
+-- `test_lines::line::starts` meets its contract. Assumes nothing.
 use native.Mathlib.Omega.{arith}
 use mathlib.Core.Path.{refl}
 use Rattle.test_lines.proofs.Reading.{too_short, agrees_next, differs, agrees_end}

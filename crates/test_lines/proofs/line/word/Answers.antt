@@ -1,4 +1,4 @@
--- `test_lines::line::word` meets its contract. The measure is how many digits are left. Assumes nothing.
+-- `test_lines::line::word` meets its contract. Assumes nothing.
 use native.Mathlib.Omega.{arith}
 use Rattle.test_lines.proofs.Reading.{room, read_start, read_next, no_digit, read_end, no_room}
 use Rattle.test_lines.proofs.line.word.Goals as goal

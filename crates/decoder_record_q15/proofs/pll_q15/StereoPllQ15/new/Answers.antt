@@ -2,6 +2,8 @@ use Prim.Native.Nat.{ℕ}
 use mathlib.Core.Path.{◌≡◌, sym, ap, ◌∙◌}
 use mathlib.Core.Bool.{true}
 use lib.Ieee.{Float}
+use Rattle.std.proofs.Common.{Err, rules}
+use Rattle.decoder_record_q15.specs.Records.{says_q15}
 use Rattle.answers.specs.Answer.{Said, accepts, or_else, first_cause, made, refused, built_by}
 use Rattle.answers.proofs.Causes.{none_yet, first_append, built_out, refused_stays}
 use Rattle.decoder_gains.specs.Gains.{Gains, gains_of, causes, common_of}
@@ -29,8 +31,10 @@ module _ (pilot natural level beta rate : Float) where
       rw (first_append (causes pilot natural level beta rate) (causes_q15 (gains_of pilot natural level beta rate)))
       (sym (refused_stays (first_cause (causes pilot natural level beta rate)) _ (gains_of pilot natural level beta rate) _ (sym h)))
 
-pub returns-in-Good : goal.returns-in-Good
-returns-in-Good c = let g = c in c.build.ensures ∙ after-made _ _ _ _ _ (rw g.in-Good.is at g.common.ensures)
+pub returns-in_err-gains : goal.returns-in_err-gains
+returns-in_err-gains c =
+    let e : c.from_residual.result ≡ Err c.in_err-gains.field-0.0 = search rules in
+    ap says_q15 e ∙ after-refused _ _ _ _ _ c.in_err-gains.ensures
 
-pub returns-in-Refused : goal.returns-in-Refused
-returns-in-Refused c = let n = c in after-refused _ _ _ _ _ (rw n.in-Refused.is at n.common.ensures)
+pub returns : goal.returns
+returns c = c.build.ensures ∙ after-made _ _ _ _ _ c.in_ok-gains.ensures

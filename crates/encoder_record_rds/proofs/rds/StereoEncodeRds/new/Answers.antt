@@ -1,10 +1,11 @@
 -- The causes of the stereo part, then 16: `stereo` is what the stereo part's construction tells. Assumes nothing.
 use Prim.Native.Nat.{ℕ}
-use mathlib.Core.Path.{◌≡◌, sym}
+use mathlib.Core.Path.{◌≡◌, sym, ap, ◌∙◌}
+use Rattle.std.proofs.Common.{Err, rules}
 use mathlib.Core.Bool.{Bool}
 use mathlib.Core.List.{[], ◌∷◌}
 use lib.Ieee.{Float}
-use Rattle.answers.specs.Answer.{rule, first_cause, made, refused, built_by}
+use Rattle.answers.specs.Answer.{rule, first_cause, made, refused, built_by, says_made}
 use Rattle.answers.proofs.Causes.{none_yet, or_none, first_append, built_out, refused_stays}
 use Rattle.answers.proofs.Tests.{failed_plain, passed_plain}
 use Rattle.encoder_record.specs.Encode.{good_level, causes, encoder_of, new_of}
@@ -31,13 +32,13 @@ module _ (frequency main pilot rds rate : Float) where
       rw (first_append (causes frequency main pilot rate) (rule 16 (good_level rds) ∷ []))
       (sym (refused_stays (first_cause (causes frequency main pilot rate)) _ (encoder_of frequency main pilot rate) _ (sym h)))
 
+pub returns-in_err-enc : goal.returns-in_err-enc
+returns-in_err-enc c =
+    let e : c.from_residual.result ≡ Err c.in_err-enc.field-0.0 = search rules in
+    ap says_made e ∙ after-refused _ _ _ _ _ c.in_err-enc.ensures
+
 pub returns-then-not-good_level : goal.returns-then-not-good_level
-returns-then-not-good_level c =
-    after-made _ _ _ _ _ (rw c.in-Made.is at c.new.ensures) (failed_plain c.good_level.ensures c.if-not-good_level.true)
+returns-then-not-good_level c = after-made _ _ _ _ _ c.in_ok-enc.ensures (failed_plain c.good_level.ensures c.if-not-good_level.true)
 
-pub returns-else-not-good_level : goal.returns-else-not-good_level
-returns-else-not-good_level c =
-    after-made _ _ _ _ _ (rw c.in-Made.is at c.new.ensures) (passed_plain c.good_level.ensures c.if-not-good_level.false)
-
-pub returns-in-Refused : goal.returns-in-Refused
-returns-in-Refused c = after-refused _ _ _ _ _ (rw c.in-Refused.is at c.new.ensures)
+pub returns : goal.returns
+returns c = after-made _ _ _ _ _ c.in_ok-enc.ensures (passed_plain c.good_level.ensures c.if-not-good_level.false)
