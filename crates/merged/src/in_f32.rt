@@ -8,23 +8,9 @@ ghost use Rattle.decoder_record.specs.Records.{pll_of_f32};
 ghost use Rattle.decoder_fast.specs.Wide.{count_f32};
 ghost use Rattle.merged.specs.Merged.{merged_of};
 
+use crate::generic::merged;
 use decoder_fast::FastReply;
 use decoder_record::pll_f32::StereoPllF32;
-
-// Sum and difference become left and right, where they lie, so that no buffer is needed.
-fn matrix_in_place(left: &mut [f32], right: &mut [f32])
-    requires { length right.old ≡ length left.old }
-    ensures { record { said = accepted; left = left.new; right = right.new }
-        ≡ filled_f32 left.old right.old }
-{
-    for i in 0..left.len() {
-        let s = left[i];
-        let d = right[i];
-        let d2 = d + d;
-        left[i] = s + d2;
-        right[i] = s - d2;
-    }
-}
 
 // A merged block, the fast way.
 pub fn block(
@@ -46,11 +32,9 @@ pub fn block(
     ensures count { count_in result.answer ≡ count_f32 (pll_of_f32 d) table.now mpx.now pilot.now
         left.old right.old }
 {
-    let reply = decoder_fast::block(d, table, mpx, pilot, left, right);
-    let answer = reply.answer;
-    if answer.is_err() {
-        return reply;
+    let reply = merged(d, table, mpx, pilot, left, right);
+    FastReply {
+        answer: reply.answer,
+        decoder: reply.decoder,
     }
-    matrix_in_place(left, right);
-    reply
 }
