@@ -1,8 +1,8 @@
 -- The calls of decoders and matrices, and what turns a record from C and back, ask nothing of their caller.
 -- `F.Asked` is what a caller of F has to show, by F's `requires`. Assumes nothing.
 use mathlib.Core.Path.{◌≡◌, refl}
-use Rattle.c_decoder.proofs.in_f32.taken.Reads as f32-taken
-use Rattle.c_decoder.proofs.in_f32.given.Reads as f32-given
+use Rattle.c_decoder.proofs.in_f32.StereoPllF32FromDecoderF32.from.Reads as f32-taken
+use Rattle.c_decoder.proofs.in_f32.DecoderF32FromStereoPllF32.from.Reads as f32-given
 use Rattle.c_decoder.proofs.in_f32.pescrondilu_f32_new.Reads as f32-new
 use Rattle.c_decoder.proofs.in_f32.pescrondilu_f32_enable.Reads as f32-enable
 use Rattle.c_decoder.proofs.in_f32.pescrondilu_f32_disable.Reads as f32-disable

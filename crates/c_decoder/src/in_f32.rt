@@ -70,42 +70,46 @@ pub struct ScannedF32 {
 }
 
 // The machine's record from C's, for this crate and the others of the C boundary.
-pub fn taken(d: DecoderF32) -> StereoPllF32
-    ensures { pll_of_f32 result ≡ taken_of (decoder_of_f32 d) }
-{
-    StereoPllF32 {
-        kp: d.kp,
-        ki: d.ki,
-        imax: d.imax,
-        beta: d.beta,
-        on: d.on,
-        off: d.off,
-        step0: d.step0,
-        phase: d.phase,
-        integ: d.integ,
-        level: d.level,
-        stereo: is_on(d.stereo),
-        enabled: is_on(d.enabled),
+impl From<DecoderF32> for StereoPllF32 {
+    ghost from_gives = { λ d r. pll_of_f32 r ≡ taken_of (decoder_of_f32 d) };
+
+    fn from(d: DecoderF32) -> StereoPllF32 {
+        StereoPllF32 {
+            kp: d.kp,
+            ki: d.ki,
+            imax: d.imax,
+            beta: d.beta,
+            on: d.on,
+            off: d.off,
+            step0: d.step0,
+            phase: d.phase,
+            integ: d.integ,
+            level: d.level,
+            stereo: is_on(d.stereo),
+            enabled: is_on(d.enabled),
+        }
     }
 }
 
 // And back.
-pub fn given(t: StereoPllF32) -> DecoderF32
-    ensures { decoder_of_f32 result ≡ given_of (pll_of_f32 t) }
-{
-    DecoderF32 {
-        kp: t.kp,
-        ki: t.ki,
-        imax: t.imax,
-        beta: t.beta,
-        on: t.on,
-        off: t.off,
-        integ: t.integ,
-        level: t.level,
-        step0: t.step0,
-        phase: t.phase,
-        stereo: switch_of(t.stereo),
-        enabled: switch_of(t.enabled),
+impl From<StereoPllF32> for DecoderF32 {
+    ghost from_gives = { λ t r. decoder_of_f32 r ≡ given_of (pll_of_f32 t) };
+
+    fn from(t: StereoPllF32) -> DecoderF32 {
+        DecoderF32 {
+            kp: t.kp,
+            ki: t.ki,
+            imax: t.imax,
+            beta: t.beta,
+            on: t.on,
+            off: t.off,
+            integ: t.integ,
+            level: t.level,
+            step0: t.step0,
+            phase: t.phase,
+            stereo: switch_of(t.stereo),
+            enabled: switch_of(t.enabled),
+        }
     }
 }
 
@@ -123,7 +127,7 @@ pub extern "C" fn pescrondilu_f32_new(
     match StereoPllF32::new(pilot, natural, level, beta, rate) {
         Ok(d) => CodedF32 {
             code: 0,
-            decoder: given(d),
+            decoder: DecoderF32::from(d),
         },
         Err(refusal) => CodedF32 {
             code: 100 + refusal.number(),
@@ -149,21 +153,21 @@ pub extern "C" fn pescrondilu_f32_new(
 pub extern "C" fn pescrondilu_f32_enable(d: DecoderF32) -> DecoderF32
     ensures { decoder_of_f32 result ≡ given_of (enabled_of true (taken_of (decoder_of_f32 d))) }
 {
-    given(taken(d).enable())
+    DecoderF32::from(StereoPllF32::from(d).enable())
 }
 
 #[unsafe(no_mangle)]
 pub extern "C" fn pescrondilu_f32_disable(d: DecoderF32) -> DecoderF32
     ensures { decoder_of_f32 result ≡ given_of (enabled_of false (taken_of (decoder_of_f32 d))) }
 {
-    given(taken(d).disable())
+    DecoderF32::from(StereoPllF32::from(d).disable())
 }
 
 #[unsafe(no_mangle)]
 pub extern "C" fn pescrondilu_f32_reset(d: DecoderF32) -> DecoderF32
     ensures { decoder_of_f32 result ≡ given_of (reset_of nought (taken_of (decoder_of_f32 d))) }
 {
-    given(taken(d).reset())
+    DecoderF32::from(StereoPllF32::from(d).reset())
 }
 
 // A block, the fast way.
@@ -187,13 +191,13 @@ pub extern "C" fn pescrondilu_f32_block(
     ensures wide { result.wide ≡ number_in (count_f32 (taken_of (decoder_of_f32 d))
         table.now mpx.now pilot.now sum.old difference.old) }
 {
-    let reply = decoder_fast::block(taken(d), table, mpx, pilot, sum, difference);
+    let reply = decoder_fast::block(StereoPllF32::from(d), table, mpx, pilot, sum, difference);
     let said = reply.answer;
     let next = reply.decoder;
     CountedF32 {
         answer: code_of(answer_of(said)),
         wide: wide_of(said),
-        decoder: given(next),
+        decoder: DecoderF32::from(next),
     }
 }
 
@@ -216,12 +220,12 @@ pub extern "C" fn pescrondilu_f32_plain_block(
         ≡ coded_block (block_of f32 (taken_of (decoder_of_f32 d))
         table.now mpx.now pilot.now sum.old difference.old) }
 {
-    let reply = decoder::plain::block(taken(d), table, mpx, pilot, sum, difference);
+    let reply = decoder::plain::block(StereoPllF32::from(d), table, mpx, pilot, sum, difference);
     let said = reply.answer;
     let next = reply.decoder;
     ReplyF32 {
         answer: code_of(said),
-        decoder: given(next),
+        decoder: DecoderF32::from(next),
     }
 }
 
@@ -229,7 +233,7 @@ pub extern "C" fn pescrondilu_f32_plain_block(
 pub extern "C" fn pescrondilu_f32_read(d: DecoderF32) -> Readout
     ensures { result ≡ read_f32 (taken_of (decoder_of_f32 d)) }
 {
-    let t = taken(d);
+    let t = StereoPllF32::from(d);
     Readout {
         integrator: t.integrator(),
         integrator_limit: t.integrator_limit(),

@@ -1,8 +1,8 @@
 -- The calls of decoders and matrices, and what turns a record from C and back, ask nothing of their caller.
 -- `F.Asked` is what a caller of F has to show, by F's `requires`. Assumes nothing.
 use mathlib.Core.Path.{◌≡◌, refl}
-use Rattle.c_decoder_q15.proofs.in_q15.taken.Reads as q15-taken
-use Rattle.c_decoder_q15.proofs.in_q15.given.Reads as q15-given
+use Rattle.c_decoder_q15.proofs.in_q15.StereoPllQ15FromDecoderQ15.from.Reads as q15-taken
+use Rattle.c_decoder_q15.proofs.in_q15.DecoderQ15FromStereoPllQ15.from.Reads as q15-given
 use Rattle.c_decoder_q15.proofs.in_q15.pescrondilu_q15_new.Reads as q15-new
 use Rattle.c_decoder_q15.proofs.in_q15.pescrondilu_q15_enable.Reads as q15-enable
 use Rattle.c_decoder_q15.proofs.in_q15.pescrondilu_q15_disable.Reads as q15-disable

@@ -48,42 +48,46 @@ pub struct ReplyQ15 {
 }
 
 // The machine's record from C's, for this crate and the others of the C boundary.
-pub fn taken(d: DecoderQ15) -> StereoPllQ15
-    ensures { pll_of_q15 result ≡ taken_of (decoder_of_q15 d) }
-{
-    StereoPllQ15 {
-        kp: d.kp,
-        ki: d.ki,
-        imax: d.imax,
-        beta: d.beta,
-        on: d.on,
-        off: d.off,
-        step0: d.step0,
-        phase: d.phase,
-        integ: d.integ,
-        level: d.level,
-        stereo: is_on(d.stereo),
-        enabled: is_on(d.enabled),
+impl From<DecoderQ15> for StereoPllQ15 {
+    ghost from_gives = { λ d r. pll_of_q15 r ≡ taken_of (decoder_of_q15 d) };
+
+    fn from(d: DecoderQ15) -> StereoPllQ15 {
+        StereoPllQ15 {
+            kp: d.kp,
+            ki: d.ki,
+            imax: d.imax,
+            beta: d.beta,
+            on: d.on,
+            off: d.off,
+            step0: d.step0,
+            phase: d.phase,
+            integ: d.integ,
+            level: d.level,
+            stereo: is_on(d.stereo),
+            enabled: is_on(d.enabled),
+        }
     }
 }
 
 // And back.
-pub fn given(t: StereoPllQ15) -> DecoderQ15
-    ensures { decoder_of_q15 result ≡ given_of (pll_of_q15 t) }
-{
-    DecoderQ15 {
-        kp: t.kp,
-        ki: t.ki,
-        imax: t.imax,
-        beta: t.beta,
-        on: t.on,
-        off: t.off,
-        integ: t.integ,
-        level: t.level,
-        step0: t.step0,
-        phase: t.phase,
-        stereo: switch_of(t.stereo),
-        enabled: switch_of(t.enabled),
+impl From<StereoPllQ15> for DecoderQ15 {
+    ghost from_gives = { λ t r. decoder_of_q15 r ≡ given_of (pll_of_q15 t) };
+
+    fn from(t: StereoPllQ15) -> DecoderQ15 {
+        DecoderQ15 {
+            kp: t.kp,
+            ki: t.ki,
+            imax: t.imax,
+            beta: t.beta,
+            on: t.on,
+            off: t.off,
+            integ: t.integ,
+            level: t.level,
+            step0: t.step0,
+            phase: t.phase,
+            stereo: switch_of(t.stereo),
+            enabled: switch_of(t.enabled),
+        }
     }
 }
 
@@ -101,7 +105,7 @@ pub extern "C" fn pescrondilu_q15_new(
     match StereoPllQ15::new(pilot, natural, level, beta, rate) {
         Ok(d) => CodedQ15 {
             code: 0,
-            decoder: given(d),
+            decoder: DecoderQ15::from(d),
         },
         Err(refusal) => CodedQ15 {
             code: 100 + refusal.number(),
@@ -127,21 +131,21 @@ pub extern "C" fn pescrondilu_q15_new(
 pub extern "C" fn pescrondilu_q15_enable(d: DecoderQ15) -> DecoderQ15
     ensures { decoder_of_q15 result ≡ given_of (enabled_of true (taken_of (decoder_of_q15 d))) }
 {
-    given(taken(d).enable())
+    DecoderQ15::from(StereoPllQ15::from(d).enable())
 }
 
 #[unsafe(no_mangle)]
 pub extern "C" fn pescrondilu_q15_disable(d: DecoderQ15) -> DecoderQ15
     ensures { decoder_of_q15 result ≡ given_of (enabled_of false (taken_of (decoder_of_q15 d))) }
 {
-    given(taken(d).disable())
+    DecoderQ15::from(StereoPllQ15::from(d).disable())
 }
 
 #[unsafe(no_mangle)]
 pub extern "C" fn pescrondilu_q15_reset(d: DecoderQ15) -> DecoderQ15
     ensures { decoder_of_q15 result ≡ given_of (reset_of (pos 0) (taken_of (decoder_of_q15 d))) }
 {
-    given(taken(d).reset())
+    DecoderQ15::from(StereoPllQ15::from(d).reset())
 }
 
 // A block, the fast way.
@@ -163,12 +167,12 @@ pub extern "C" fn pescrondilu_q15_block(
         ≡ coded_block (block_of q15 (taken_of (decoder_of_q15 d))
         table.now mpx.now pilot.now sum.old difference.old) }
 {
-    let reply = decoder_q15::fast::block(taken(d), table, mpx, pilot, sum, difference);
+    let reply = decoder_q15::fast::block(StereoPllQ15::from(d), table, mpx, pilot, sum, difference);
     let said = reply.answer;
     let next = reply.decoder;
     ReplyQ15 {
         answer: code_of(said),
-        decoder: given(next),
+        decoder: DecoderQ15::from(next),
     }
 }
 
@@ -191,12 +195,19 @@ pub extern "C" fn pescrondilu_q15_plain_block(
         ≡ coded_block (block_of q15 (taken_of (decoder_of_q15 d))
         table.now mpx.now pilot.now sum.old difference.old) }
 {
-    let reply = decoder_q15::plain::block(taken(d), table, mpx, pilot, sum, difference);
+    let reply = decoder_q15::plain::block(
+        StereoPllQ15::from(d),
+        table,
+        mpx,
+        pilot,
+        sum,
+        difference,
+    );
     let said = reply.answer;
     let next = reply.decoder;
     ReplyQ15 {
         answer: code_of(said),
-        decoder: given(next),
+        decoder: DecoderQ15::from(next),
     }
 }
 
@@ -204,7 +215,7 @@ pub extern "C" fn pescrondilu_q15_plain_block(
 pub extern "C" fn pescrondilu_q15_read(d: DecoderQ15) -> Readout
     ensures { result ≡ read_q15 (taken_of (decoder_of_q15 d)) }
 {
-    let t = taken(d);
+    let t = StereoPllQ15::from(d);
     Readout {
         integrator: t.integrator(),
         integrator_limit: t.integrator_limit(),

@@ -9,8 +9,9 @@ ghost use Rattle.c_decoder.specs.Coded.{decoder_of_f32, taken_of};
 ghost use Rattle.c_merged.specs.Coded.{coded_merged};
 
 use answers::answer::code_of;
-use c_decoder::in_f32::{CountedF32, DecoderF32, given, taken};
+use c_decoder::in_f32::{CountedF32, DecoderF32};
 use counted::{answer_of, wide_of};
+use decoder_record::pll_f32::StereoPllF32;
 
 // A merged block, the fast way.
 #[unsafe(no_mangle)]
@@ -33,13 +34,13 @@ pub extern "C" fn pescrondilu_f32_merged_block(
     ensures wide { result.wide ≡ number_in (count_f32 (taken_of (decoder_of_f32 d)) table.now mpx.now
         pilot.now left.old right.old) }
 {
-    let before = taken(d);
+    let before = StereoPllF32::from(d);
     let reply = merged::in_f32::block(before, table, mpx, pilot, left, right);
     let said = reply.answer;
     let next = reply.decoder;
     CountedF32 {
         answer: code_of(answer_of(said)),
         wide: wide_of(said),
-        decoder: given(next),
+        decoder: DecoderF32::from(next),
     }
 }

@@ -8,7 +8,8 @@ ghost use Rattle.c_decoder_q15.specs.CodedQ15.{decoder_of_q15};
 ghost use Rattle.c_merged.specs.Coded.{coded_merged};
 
 use answers::answer::code_of;
-use c_decoder_q15::in_q15::{DecoderQ15, ReplyQ15, given, taken};
+use c_decoder_q15::in_q15::{DecoderQ15, ReplyQ15};
+use decoder_record_q15::pll_q15::StereoPllQ15;
 
 // A merged block, the fast way.
 #[unsafe(no_mangle)]
@@ -29,12 +30,12 @@ pub extern "C" fn pescrondilu_q15_merged_block(
         ≡ coded_merged (merged_of q15 filled_q15 (taken_of (decoder_of_q15 d)) table.now mpx.now
         pilot.now left.old right.old) }
 {
-    let before = taken(d);
+    let before = StereoPllQ15::from(d);
     let reply = merged_q15::in_q15::block(before, table, mpx, pilot, left, right);
     let said = reply.answer;
     let next = reply.decoder;
     ReplyQ15 {
         answer: code_of(said),
-        decoder: given(next),
+        decoder: DecoderQ15::from(next),
     }
 }

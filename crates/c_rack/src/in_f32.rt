@@ -9,7 +9,7 @@ ghost use Rattle.c_rack.specs.Coded.{coded_round};
 
 use crate::shared::RackWaiting;
 use answers::answer::{Code, code_of};
-use c_decoder::in_f32::{DecoderF32, given, taken};
+use c_decoder::in_f32::DecoderF32;
 use decoder_record::pll_f32::StereoPllF32;
 
 // The decoders in C, of which the first `number` are in use.
@@ -35,11 +35,11 @@ pub struct RoundF32 {
 pub fn all_taken(decoders: [DecoderF32; 8]) -> [StereoPllF32; 8]
     ensures { map pll_of_f32 result ≡ map taken_of (map decoder_of_f32 decoders) }
 {
-    let first = taken(decoders[0]);
+    let first = StereoPllF32::from(decoders[0]);
     let mut records = [first; 8];
     for k in 0..8 {
         let d = decoders[k];
-        records[k] = taken(d);
+        records[k] = StereoPllF32::from(d);
     }
     records
 }
@@ -48,11 +48,11 @@ pub fn all_taken(decoders: [DecoderF32; 8]) -> [StereoPllF32; 8]
 pub fn all_given(records: [StereoPllF32; 8]) -> [DecoderF32; 8]
     ensures { map decoder_of_f32 result ≡ map given_of (map pll_of_f32 records) }
 {
-    let first = given(records[0]);
+    let first = DecoderF32::from(records[0]);
     let mut decoders = [first; 8];
     for k in 0..8 {
         let t = records[k];
-        decoders[k] = given(t);
+        decoders[k] = DecoderF32::from(t);
     }
     decoders
 }

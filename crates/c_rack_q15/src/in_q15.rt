@@ -8,7 +8,7 @@ ghost use Rattle.c_decoder_q15.specs.CodedQ15.{decoder_of_q15};
 ghost use Rattle.c_rack.specs.Coded.{coded_round};
 
 use answers::answer::{Code, code_of};
-use c_decoder_q15::in_q15::{DecoderQ15, given, taken};
+use c_decoder_q15::in_q15::DecoderQ15;
 use c_rack::shared::RackWaiting;
 use decoder_record_q15::pll_q15::StereoPllQ15;
 
@@ -33,11 +33,11 @@ pub struct RoundQ15 {
 pub fn all_taken(decoders: [DecoderQ15; 8]) -> [StereoPllQ15; 8]
     ensures { map pll_of_q15 result ≡ map taken_of (map decoder_of_q15 decoders) }
 {
-    let first = taken(decoders[0]);
+    let first = StereoPllQ15::from(decoders[0]);
     let mut records = [first; 8];
     for k in 0..8 {
         let d = decoders[k];
-        records[k] = taken(d);
+        records[k] = StereoPllQ15::from(d);
     }
     records
 }
@@ -46,11 +46,11 @@ pub fn all_taken(decoders: [DecoderQ15; 8]) -> [StereoPllQ15; 8]
 pub fn all_given(records: [StereoPllQ15; 8]) -> [DecoderQ15; 8]
     ensures { map decoder_of_q15 result ≡ map given_of (map pll_of_q15 records) }
 {
-    let first = given(records[0]);
+    let first = DecoderQ15::from(records[0]);
     let mut decoders = [first; 8];
     for k in 0..8 {
         let t = records[k];
-        decoders[k] = given(t);
+        decoders[k] = DecoderQ15::from(t);
     }
     decoders
 }

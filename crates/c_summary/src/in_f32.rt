@@ -13,6 +13,7 @@ use answers::answer::{Code, code_of};
 use answers::switch::{is_on, switch_of};
 use c_decoder::in_f32::DecoderF32;
 use counted::{answer_of, wide_of};
+use decoder_record::pll_f32::StereoPllF32;
 use summary_counts::Counts;
 use summary_record::in_f32::SummaryF32;
 
@@ -40,33 +41,37 @@ pub struct SummaryReplyF32 {
 }
 
 // The summary from C's record.
-fn taken(s: SummaryRecordF32) -> SummaryF32
-    ensures { summary_of_f32 result ≡ taken_summary (record_f32 s) }
-{
-    SummaryF32 {
-        counts: Counts {
-            period: s.period,
-            stereo: s.stereo,
-            mono: s.mono,
-            changes: s.changes,
-            before: is_on(s.before),
-        },
-        magnitude: s.magnitude,
+impl From<SummaryRecordF32> for SummaryF32 {
+    ghost from_gives = { λ s r. summary_of_f32 r ≡ taken_summary (record_f32 s) };
+
+    fn from(s: SummaryRecordF32) -> SummaryF32 {
+        SummaryF32 {
+            counts: Counts {
+                period: s.period,
+                stereo: s.stereo,
+                mono: s.mono,
+                changes: s.changes,
+                before: is_on(s.before),
+            },
+            magnitude: s.magnitude,
+        }
     }
 }
 
 // And back.
-fn given(s: SummaryF32) -> SummaryRecordF32
-    ensures { record_f32 result ≡ given_summary (summary_of_f32 s) }
-{
-    let c = s.counts;
-    SummaryRecordF32 {
-        period: c.period,
-        stereo: c.stereo,
-        mono: c.mono,
-        changes: c.changes,
-        magnitude: s.magnitude,
-        before: switch_of(c.before),
+impl From<SummaryF32> for SummaryRecordF32 {
+    ghost from_gives = { λ s r. record_f32 r ≡ given_summary (summary_of_f32 s) };
+
+    fn from(s: SummaryF32) -> SummaryRecordF32 {
+        let c = s.counts;
+        SummaryRecordF32 {
+            period: c.period,
+            stereo: c.stereo,
+            mono: c.mono,
+            changes: c.changes,
+            magnitude: s.magnitude,
+            before: switch_of(c.before),
+        }
     }
 }
 
@@ -74,7 +79,7 @@ fn given(s: SummaryF32) -> SummaryRecordF32
 pub extern "C" fn pescrondilu_f32_summary_new(period: u32) -> SummaryRecordF32
     ensures { record_f32 result ≡ given_summary (fresh_summary f32 period) }
 {
-    given(SummaryF32::new(period))
+    SummaryRecordF32::from(SummaryF32::new(period))
 }
 
 // A block with its summaries, the fast way.
@@ -122,8 +127,8 @@ pub extern "C" fn pescrondilu_f32_summary_block(
           magnitude = magnitude.old;
         })) }
 {
-    let decoder = c_decoder::in_f32::taken(d);
-    let summary = taken(s);
+    let decoder = StereoPllF32::from(d);
+    let summary = SummaryF32::from(s);
     let reply = summary::block(
         decoder, summary, table, mpx, pilot, sum, difference, stereo, mono, changes, magnitude,
     );
@@ -133,7 +138,7 @@ pub extern "C" fn pescrondilu_f32_summary_block(
     SummaryReplyF32 {
         answer: code_of(answer_of(said)),
         wide: wide_of(said),
-        decoder: c_decoder::in_f32::given(next),
-        summary: given(held),
+        decoder: DecoderF32::from(next),
+        summary: SummaryRecordF32::from(held),
     }
 }

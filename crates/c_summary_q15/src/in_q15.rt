@@ -12,6 +12,7 @@ ghost use Rattle.c_summary_q15.specs.CodedQ15.{record_q15};
 use answers::answer::{Code, code_of};
 use answers::switch::{is_on, switch_of};
 use c_decoder_q15::in_q15::DecoderQ15;
+use decoder_record_q15::pll_q15::StereoPllQ15;
 use summary_counts::Counts;
 use summary_record::in_q15::SummaryQ15;
 
@@ -37,33 +38,37 @@ pub struct SummaryReplyQ15 {
 }
 
 // The summary from C's record.
-fn taken(s: SummaryRecordQ15) -> SummaryQ15
-    ensures { summary_of_q15 result ≡ taken_summary (record_q15 s) }
-{
-    SummaryQ15 {
-        counts: Counts {
-            period: s.period,
-            stereo: s.stereo,
-            mono: s.mono,
-            changes: s.changes,
-            before: is_on(s.before),
-        },
-        magnitude: s.magnitude,
+impl From<SummaryRecordQ15> for SummaryQ15 {
+    ghost from_gives = { λ s r. summary_of_q15 r ≡ taken_summary (record_q15 s) };
+
+    fn from(s: SummaryRecordQ15) -> SummaryQ15 {
+        SummaryQ15 {
+            counts: Counts {
+                period: s.period,
+                stereo: s.stereo,
+                mono: s.mono,
+                changes: s.changes,
+                before: is_on(s.before),
+            },
+            magnitude: s.magnitude,
+        }
     }
 }
 
 // And back.
-fn given(s: SummaryQ15) -> SummaryRecordQ15
-    ensures { record_q15 result ≡ given_summary (summary_of_q15 s) }
-{
-    let c = s.counts;
-    SummaryRecordQ15 {
-        period: c.period,
-        stereo: c.stereo,
-        mono: c.mono,
-        changes: c.changes,
-        magnitude: s.magnitude,
-        before: switch_of(c.before),
+impl From<SummaryQ15> for SummaryRecordQ15 {
+    ghost from_gives = { λ s r. record_q15 r ≡ given_summary (summary_of_q15 s) };
+
+    fn from(s: SummaryQ15) -> SummaryRecordQ15 {
+        let c = s.counts;
+        SummaryRecordQ15 {
+            period: c.period,
+            stereo: c.stereo,
+            mono: c.mono,
+            changes: c.changes,
+            magnitude: s.magnitude,
+            before: switch_of(c.before),
+        }
     }
 }
 
@@ -71,7 +76,7 @@ fn given(s: SummaryQ15) -> SummaryRecordQ15
 pub extern "C" fn pescrondilu_q15_summary_new(period: u32) -> SummaryRecordQ15
     ensures { record_q15 result ≡ given_summary (fresh_summary q15 period) }
 {
-    given(SummaryQ15::new(period))
+    SummaryRecordQ15::from(SummaryQ15::new(period))
 }
 
 // A block with its summaries, the fast way.
@@ -111,8 +116,8 @@ pub extern "C" fn pescrondilu_q15_summary_block(
           magnitude = magnitude.old;
         })) }
 {
-    let decoder = c_decoder_q15::in_q15::taken(d);
-    let summary = taken(s);
+    let decoder = StereoPllQ15::from(d);
+    let summary = SummaryQ15::from(s);
     let reply = summary_q15::block(
         decoder, summary, table, mpx, pilot, sum, difference, stereo, mono, changes, magnitude,
     );
@@ -121,7 +126,7 @@ pub extern "C" fn pescrondilu_q15_summary_block(
     let held = reply.summary;
     SummaryReplyQ15 {
         answer: code_of(said),
-        decoder: c_decoder_q15::in_q15::given(next),
-        summary: given(held),
+        decoder: DecoderQ15::from(next),
+        summary: SummaryRecordQ15::from(held),
     }
 }

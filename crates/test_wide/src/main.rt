@@ -94,7 +94,7 @@ fn told(out: &mut impl Write, counted: Result<usize, Refusal>) -> io::Result<()>
         Ok(n) => number(out, n as u64),
         Err(refusal) => {
             write!(out, " refused by")?;
-            number(out, refusal.number() as u64)
+            number(out, (refusal.code().code % 100) as u64)
         }
     }
 }

@@ -14,7 +14,7 @@ loop-k-preserved c =
     let i = t.loop-k.invariant in (
       i.0,
       simp length-set i.1,
-      converted_next (λ t. given_of (pll_of_f32 t)) decoder_of_f32 t.loop-k.k t.args.records t.loop-k.decoders _ c.given.result (omega (arith, i.0)) (omega (arith, i.1)) i.2 c.given.ensures,
+      converted_next (λ t. given_of (pll_of_f32 t)) decoder_of_f32 t.loop-k.k t.args.records t.loop-k.decoders _ c.from.result (omega (arith, i.0)) (omega (arith, i.1)) i.2 c.from.ensures,
     )
 
 pub returns : goal.returns

@@ -13,7 +13,7 @@ loop-k-preserved c =
     let i = c.loop-k.invariant in (
       i.0,
       simp length-set i.1,
-      converted_next (λ d. taken_of (decoder_of_f32 d)) pll_of_f32 c.loop-k.k c.args.decoders c.loop-k.records _ c.taken.result (omega (arith, i.0)) (omega (arith, i.1)) i.2 c.taken.ensures,
+      converted_next (λ d. taken_of (decoder_of_f32 d)) pll_of_f32 c.loop-k.k c.args.decoders c.loop-k.records _ c.from.result (omega (arith, i.0)) (omega (arith, i.1)) i.2 c.from.ensures,
     )
 
 pub returns : goal.returns
