@@ -109,17 +109,27 @@ change_built f old accepted a = refl
 change_built f old (turned n) a = refl
 change_built f old (lengths n x y) a = refl
 
--- a set call on a part of a record, from the set call on the part
-abbrev pub map_changed : {A B : Type 0} → (A → B) → Changed A → Changed B
-map_changed f (changed a) = changed (f a)
-map_changed f (unchanged n a) = unchanged n (f a)
+-- a set call on a part of a record, from the set call on the part: a refused one gives the old record
+abbrev pub map_changed : {A B : Type 0} → (A → B) → B → Changed A → Changed B
+map_changed f old (changed a) = changed (f a)
+map_changed f old (unchanged n a) = unchanged n old
 
-pub map_changed_lem : {A B : Type 0} (f : A → B) (s : Said) (new old : A) → map_changed f (changed_by s new old) ≡ changed_by s (f new) (f old)
-map_changed_lem f accepted new old = refl
-map_changed_lem f (turned n) new old = refl
-map_changed_lem f (lengths n x y) new old = refl
+pub map_changed_lem : {A B : Type 0} (f : A → B) (b : B) (s : Said) (new old : A) → map_changed f b (changed_by s new old) ≡ changed_by s (f new) b
+map_changed_lem f b accepted new old = refl
+map_changed_lem f b (turned n) new old = refl
+map_changed_lem f b (lengths n x y) new old = refl
 
-pub map_says_changed : {A B : Type 0} (f : A → B) (r : Result (Unit {0}) Refusal) (now : A) → map_changed f (says_changed r now) ≡ says_changed r (f now)
+-- the same, where the record is taken over on both sides, as it is after a call that is lent it
+abbrev pub map_either : {A B : Type 0} → (A → B) → Changed A → Changed B
+map_either f (changed a) = changed (f a)
+map_either f (unchanged n a) = unchanged n (f a)
+
+pub map_either_lem : {A B : Type 0} (f : A → B) (s : Said) (new old : A) → map_either f (changed_by s new old) ≡ changed_by s (f new) (f old)
+map_either_lem f accepted new old = refl
+map_either_lem f (turned n) new old = refl
+map_either_lem f (lengths n x y) new old = refl
+
+pub map_says_changed : {A B : Type 0} (f : A → B) (r : Result (Unit {0}) Refusal) (now : A) → map_either f (says_changed r now) ≡ says_changed r (f now)
 map_says_changed f (Ok done) now = refl
 map_says_changed f (Err refusal) now = refl
 
